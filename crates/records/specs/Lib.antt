@@ -1,0 +1,2 @@
+-- How the enum of this crate is read.
+pub mod Header
