@@ -31,6 +31,11 @@ holds-accepted false number place next e = absurd (refused-not-accepted e)
 pub holds-passes : {B : Type 0} {test : Bool} (number place : ℕ) (next : Checked B) → test ≡ true → holds test number place >> next ≡ next
 holds-passes number place next e = ap (λ (t : Bool). holds t number place >> next) e
 
+-- chains with the same first step and equal second steps are equal
+pub bind-same : {A B : Type 0} (first : Checked A) {next other : A → Checked B} → ((a : A) → next a ≡ other a) → first >>= next ≡ first >>= other
+bind-same (refused number place) same = refl
+bind-same (accepted a) same = same a
+
 -- both parts of a test that is an and
 pub both-true : (a b : Bool) → a && b ≡ true → (a ≡ true) × (b ≡ true)
 both-true true b e = (refl, e)

@@ -3,3 +3,4 @@ pub mod Accepted
 pub mod Standing
 pub mod SetBody
 pub mod RepeatBody
+pub mod Turns
