@@ -4,3 +4,8 @@ pub mod Standing
 pub mod SetBody
 pub mod RepeatBody
 pub mod Turns
+-- The theorems about the definitions, a file each.
+pub mod Every
+pub mod Invariant
+pub mod Ends
+pub mod Passes
