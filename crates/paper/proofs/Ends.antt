@@ -13,7 +13,7 @@ use Rattle.paper.proofs.Invariant.{Relation, Kept, Sound, passOf-sound,
 abbrev pub Within : ℕ → Relation
 Within n p r q s = (p ≤ q) × (q ≤ max p n)
 
-within-kept : (line : List ℕ) (low high : ℕ) → Kept line low high (Within (length line))
+pub within-kept : (line : List ℕ) (low high : ℕ) → Kept line low high (Within (length line))
 within-kept line low high =
     record {
       stay = λ p rows. omega arith;

@@ -31,6 +31,11 @@ pub every-weaken : (P Q : Property) (os : List Outcome) → Every P os → ((p :
 every-weaken P Q [] h g = tt
 every-weaken P Q (o ∷ os) h g = (g (o .end) (o .rows) (h .0), every-weaken P Q os (h .1) g)
 
+-- two properties of every outcome are one
+pub every-both : (P Q : Property) (os : List Outcome) → Every P os → Every Q os → Every (λ p rows. P p rows × Q p rows) os
+every-both P Q [] h g = tt
+every-both P Q (o ∷ os) h g = ((h .0, g .0), every-both P Q os (h .1) (g .1))
+
 -- two readings that agree wherever an outcome can lead agree after it
 pub bind-agree : (P : Property) (os : List Outcome) (f g : Reading) → Every P os
     → ((p : ℕ) (rows : Rows) → P p rows → f p rows ≡ g p rows) → bind os f ≡ bind os g

@@ -9,3 +9,6 @@ pub mod Every
 pub mod Invariant
 pub mod Ends
 pub mod Passes
+pub mod RowLaws
+pub mod RowsKept
+pub mod AnswerRows
