@@ -12,3 +12,5 @@ pub mod Passes
 pub mod RowLaws
 pub mod RowsKept
 pub mod AnswerRows
+-- The theorems about the definitions of specs/.
+pub mod Once
