@@ -14,3 +14,8 @@ pub mod RowsKept
 pub mod AnswerRows
 -- The theorems about the definitions of specs/.
 pub mod Once
+-- The theorems about the definitions of specs/.
+pub mod First
+pub mod Untouched
+pub mod Tree
+pub mod Grown
