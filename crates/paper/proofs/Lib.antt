@@ -19,3 +19,5 @@ pub mod First
 pub mod Untouched
 pub mod Tree
 pub mod Grown
+pub mod Sizes
+pub mod Unfold
