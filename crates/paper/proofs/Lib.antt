@@ -21,3 +21,5 @@ pub mod Tree
 pub mod Grown
 pub mod Sizes
 pub mod Unfold
+pub mod MemberList
+pub mod Header
