@@ -9,11 +9,9 @@ use lib.ListN.{length}
 use borrow.Author.Tests.{leb-true, le-leb, eqb-true}
 use Rattle.paper.specs.Refusal.{Checked, refused, accepted, _>>=_, _>>_, holds, brokenRecord, tooDeep}
 use Rattle.paper.specs.Pattern.{Pattern}
-use Rattle.paper.specs.Pattern.Pattern.{nothing, empty, bytes, group, sequence, alternation, repeat}
-use Rattle.paper.specs.Layout.{recordBytes, Kind, nothingKind, emptyKind, bytesKind, groupKind, sequenceKind, alternationKind, repeatKind, kinds, kindNumber, rangeBytes, repeatBytes, recordOf, recordsOf}
+use Rattle.paper.specs.Layout.{Kind, nothingKind, emptyKind, bytesKind, groupKind, sequenceKind, alternationKind, repeatKind, kinds, kindNumber}
 use Rattle.paper.specs.Check.{bodyLength, kindAt, bodyStart, bodyEnd, kindAmong, header, body, walkRecord}
 use Rattle.paper.proofs.Accepted.{refused-not-accepted, accepted-injective, bind-accepted, holds-accepted, holds-passes}
-use Rattle.paper.proofs.Standing.{Stands, Standing, record-standing}
 use Rattle.paper.proofs.Turns.{Within}
 
 kind-found : (ks : List Kind) (number at : ℕ) (k : Kind) → kindAmong ks number at ≡ accepted k → number ≡ kindNumber k
@@ -55,55 +53,3 @@ walk-within zero bs at stop before e accepts =
 walk-within (suc left) bs at stop before e accepts =
     let (kind, known, _) = bind-accepted (header bs at stop) (λ kind. body kind (walkRecord left bs) bs at before) accepts in
     header-accepted bs at stop kind known .0
-
--- ---- the record of a tree as one record
-
-abbrev pub kindOf : Pattern → Kind
-kindOf nothing = nothingKind
-kindOf empty = emptyKind
-kindOf (bytes ranges) = bytesKind
-kindOf (group e) = groupKind
-kindOf (sequence ms) = sequenceKind
-kindOf (alternation ms) = alternationKind
-kindOf (repeat least upper mode e) = repeatKind
-
-abbrev pub bodyOf : Pattern → List ℕ
-bodyOf nothing = []
-bodyOf empty = []
-bodyOf (bytes ranges) = rangeBytes ranges
-bodyOf (group e) = recordOf e
-bodyOf (sequence ms) = recordsOf ms
-bodyOf (alternation ms) = recordsOf ms
-bodyOf (repeat least upper mode e) = repeatBytes least upper mode ++ recordOf e
-
-pub record-of-body : (e : Pattern) → recordOf e ≡ recordBytes (kindNumber (kindOf e)) (bodyOf e)
-record-of-body nothing = refl
-record-of-body empty = refl
-record-of-body (bytes ranges) = refl
-record-of-body (group e) = refl
-record-of-body (sequence ms) = refl
-record-of-body (alternation ms) = refl
-record-of-body (repeat least upper mode e) = refl
-
--- a tree's record is four bytes and its body
-pub length-record : (e : Pattern) → length (recordOf e) ≡ 4 + length (bodyOf e)
-length-record e = ap length (record-of-body e) ∙ omega arith
-
-kind-small : (k : Kind) → kindNumber k < 65536
-kind-small nothingKind = omega arith
-kind-small emptyKind = omega arith
-kind-small bytesKind = omega arith
-kind-small groupKind = omega arith
-kind-small sequenceKind = omega arith
-kind-small alternationKind = omega arith
-kind-small repeatKind = omega arith
-
--- a tree's record that stands at an offset has its numbers and its body there
-pub tree-standing : (bs : List ℕ) (at : ℕ) (e : Pattern) → length (recordOf e) < 65536 → Stands bs at (recordOf e) → Standing bs at (kindNumber (kindOf e)) (bodyOf e)
-tree-standing bs at e short s =
-    record-standing bs at (kindNumber (kindOf e)) (bodyOf e) (omega (arith, length-record e)) (kind-small (kindOf e))
-    (subst (λ (l : List ℕ). Stands bs at l) (record-of-body e) s)
-
--- so it ends where its bytes end
-pub end-standing : (bs : List ℕ) (at : ℕ) (e : Pattern) → length (recordOf e) < 65536 → Stands bs at (recordOf e) → bodyEnd bs at ≡ at + length (recordOf e)
-end-standing bs at e short s = omega (arith, tree-standing bs at e short s .size, length-record e)

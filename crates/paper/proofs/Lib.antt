@@ -21,5 +21,7 @@ pub mod Tree
 pub mod Grown
 pub mod Sizes
 pub mod Unfold
+pub mod TreeRecord
 pub mod MemberList
 pub mod Header
+pub mod WalkFinds

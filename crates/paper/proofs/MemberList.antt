@@ -2,14 +2,17 @@
 use Prim.Native.Nat.{ℕ, zero, suc, _+_, _≤_, _<_, max}
 use native.Mathlib.Omega.{arith}
 use mathlib.Core.Path.{_≡_, refl, sym, _∙_, ap}
+use mathlib.Core.Logic.{_↔_}
 use mathlib.Core.List.{List, [], _∷_, _++_, append-nil}
 use lib.ListN.{length}
 use Rattle.paper.specs.Refusal.{Checked, refused, accepted}
 use Rattle.paper.specs.Pattern.{Pattern, Members, groups, groupsOfAll, levels, levelsOfAll}
+use Rattle.paper.specs.Pattern.Pattern.{sequence, alternation}
 use Rattle.paper.specs.Pattern.Members.{two, more}
 use Rattle.paper.specs.Layout.{recordOf, recordsOf, WellMade, AllWellMade}
 use Rattle.paper.specs.Check.{membersFrom, atLeastTwo}
 use Rattle.paper.proofs.Accepted.{refused-not-accepted, accepted-injective}
+use Rattle.paper.proofs.TreeRecord.{bodyOf}
 
 -- the members in order
 abbrev pub listOf : Members → List Pattern
@@ -85,3 +88,18 @@ all-well-made (more a ms) each = (each .0, all-well-made ms (each .1))
 pub levels-listed : (ms : Members) {left : ℕ} → Each (λ e. levels e ≤ left) (listOf ms) → levelsOfAll ms ≤ left
 levels-listed (two a b) each = omega (arith, each .0, each .1 .0)
 levels-listed (more a ms) each = omega (arith, each .0, levels-listed ms (each .1))
+
+-- ---- the two kinds that hold members
+
+-- what a sequence and an alternation have in common: the body is the members' records, and what is counted is counted in the members
+pub record Holder (tree : Members → Pattern) : Type 0 where
+  pub inside : (ms : Members) → bodyOf (tree ms) ≡ recordsOf ms
+  pub made : (ms : Members) → WellMade (tree ms) ↔ AllWellMade ms
+  pub low : (ms : Members) → levels (tree ms) ≡ suc (levelsOfAll ms)
+  pub few : (ms : Members) → groups (tree ms) ≡ groupsOfAll ms
+
+pub sequence-holds : Holder sequence
+sequence-holds = record { inside = λ ms. refl; made = λ ms. (λ m. m, λ m. m); low = λ ms. refl; few = λ ms. refl }
+
+pub alternation-holds : Holder alternation
+alternation-holds = record { inside = λ ms. refl; made = λ ms. (λ m. m, λ m. m); low = λ ms. refl; few = λ ms. refl }

@@ -5,8 +5,8 @@ use native.Mathlib.Omega.{arith}
 use native.Mathlib.Numerals.{add-one}
 use mathlib.Core.Path.{_≡_, refl, sym, _∙_, ap, subst}
 use mathlib.Core.List.{List, [], _∷_, _++_}
-use lib.ListN.{length, getD, take, drop}
-use lib.Seq.{drop-cons, take-all, take-length}
+use lib.ListN.{length, getD, take, drop, length-drop}
+use lib.Seq.{drop-cons, length-take-le, take-all, take-length}
 use Rattle.paper.specs.Layout.{twoBytes, recordBytes}
 use Rattle.paper.specs.Check.{numberAt, bodyLength, kindAt, bodyStart, bodyEnd, part}
 
@@ -57,6 +57,9 @@ taken-standing bs at (x ∷ xs) fits s =
 -- the part between two offsets stands at the first
 pub stands-part : (bs : List ℕ) (at end : ℕ) → at ≤ end → end ≤ length bs → Stands bs at (part bs at end)
 stands-part bs at end rises fits = stands-taken bs at (end - at) (omega arith)
+
+pub length-part : (bs : List ℕ) (at end : ℕ) → end ≤ length bs → length (part bs at end) ≡ end - at
+length-part bs at end fits = length-take-le (end - at) (drop at bs) (omega (arith, length-drop at bs))
 
 -- what stands at an offset and ends inside is the part between the two offsets
 pub part-standing : (bs : List ℕ) (at end : ℕ) (xs : List ℕ) → at + length xs ≡ end → end ≤ length bs → Stands bs at xs → part bs at end ≡ xs
