@@ -25,3 +25,5 @@ pub mod TreeRecord
 pub mod MemberList
 pub mod Header
 pub mod WalkFinds
+pub mod WalkAccepts
+pub mod Lawful

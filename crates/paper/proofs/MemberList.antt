@@ -5,14 +5,14 @@ use mathlib.Core.Path.{_≡_, refl, sym, _∙_, ap}
 use mathlib.Core.Logic.{_↔_}
 use mathlib.Core.List.{List, [], _∷_, _++_, append-nil}
 use lib.ListN.{length}
-use Rattle.paper.specs.Refusal.{Checked, refused, accepted}
+use Rattle.paper.specs.Refusal.{Checked, refused, accepted, _>>=_}
 use Rattle.paper.specs.Pattern.{Pattern, Members, groups, groupsOfAll, levels, levelsOfAll}
 use Rattle.paper.specs.Pattern.Pattern.{sequence, alternation}
 use Rattle.paper.specs.Pattern.Members.{two, more}
 use Rattle.paper.specs.Layout.{recordOf, recordsOf, WellMade, AllWellMade}
-use Rattle.paper.specs.Check.{membersFrom, atLeastTwo}
+use Rattle.paper.specs.Check.{membersFrom, atLeastTwo, Walk, several, body}
 use Rattle.paper.proofs.Accepted.{refused-not-accepted, accepted-injective}
-use Rattle.paper.proofs.TreeRecord.{bodyOf}
+use Rattle.paper.proofs.TreeRecord.{kindOf, bodyOf}
 
 -- the members in order
 abbrev pub listOf : Members → List Pattern
@@ -97,9 +97,10 @@ pub record Holder (tree : Members → Pattern) : Type 0 where
   pub made : (ms : Members) → WellMade (tree ms) ↔ AllWellMade ms
   pub low : (ms : Members) → levels (tree ms) ≡ suc (levelsOfAll ms)
   pub few : (ms : Members) → groups (tree ms) ≡ groupsOfAll ms
+  pub walked : (ms : Members) (walk : Walk) (bs : List ℕ) (at before : ℕ) → body (kindOf (tree ms)) walk bs at before ≡ several walk bs at before >>= λ found. accepted (tree found)
 
 pub sequence-holds : Holder sequence
-sequence-holds = record { inside = λ ms. refl; made = λ ms. (λ m. m, λ m. m); low = λ ms. refl; few = λ ms. refl }
+sequence-holds = record { inside = λ ms. refl; made = λ ms. (λ m. m, λ m. m); low = λ ms. refl; few = λ ms. refl; walked = λ ms walk bs at before. refl }
 
 pub alternation-holds : Holder alternation
-alternation-holds = record { inside = λ ms. refl; made = λ ms. (λ m. m, λ m. m); low = λ ms. refl; few = λ ms. refl }
+alternation-holds = record { inside = λ ms. refl; made = λ ms. (λ m. m, λ m. m); low = λ ms. refl; few = λ ms. refl; walked = λ ms walk bs at before. refl }

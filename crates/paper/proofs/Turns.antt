@@ -3,7 +3,7 @@
 use Prim.Native.Nat.{ℕ, zero, suc, _+_, _-_, _*_, _≤_, _<_}
 use native.Mathlib.Omega.{arith}
 use native.Mathlib.Nat.{le-antisymm}
-use mathlib.Core.Path.{_≡_, refl, sym, ap, subst, subst₂}
+use mathlib.Core.Path.{_≡_, refl, sym, _∙_, ap, subst, subst₂}
 use mathlib.Core.Bool.{Bool, true, false, cond}
 use mathlib.Core.List.{List, [], _∷_}
 use lib.Dec.{leb, ltb}
@@ -60,6 +60,15 @@ walk-all-turns walk bs (suc turns) (suc more) at stop before enough also =
 pub walk-all-rule : (walk : Walk) (bs : List ℕ) (turns at stop before : ℕ) → stop - at ≤ turns
     → walkAll turns walk bs at stop before ≡ cond (ltb at stop) (oneMore turns walk bs at stop before) (accepted [])
 walk-all-rule walk bs turns at stop before enough = walk-all-turns walk bs turns (suc turns) at stop before enough (omega arith)
+
+-- one more record is accepted before those behind it
+pub walk-all-accepts : (walk : Walk) (bs : List ℕ) (turns at stop before : ℕ) (e : Pattern) (es : List Pattern) → stop - at ≤ turns → at < stop → walk at stop before ≡ accepted e
+    → walkAll turns walk bs (bodyEnd bs at) stop (before + groups e) ≡ accepted es → walkAll turns walk bs at stop before ≡ accepted (e ∷ es)
+walk-all-accepts walk bs turns at stop before e es enough left first rest =
+    walk-all-rule walk bs turns at stop before enough
+    ∙ ap (λ (b : Bool). cond b (oneMore turns walk bs at stop before) (accepted [])) (lt-ltb at stop left)
+    ∙ ap (λ (c : Checked Pattern). c >>= λ m. walkAll turns walk bs (bodyEnd bs at) stop (before + groups m) >>= λ ms. accepted (m ∷ ms)) first
+    ∙ ap (λ (c : Checked (List Pattern)). c >>= λ ms. accepted (e ∷ ms)) rest
 
 -- a walk that accepts no record that runs past its holder
 abbrev pub Within : List ℕ → Walk → Type 0
