@@ -4,7 +4,6 @@ pub mod Standing
 pub mod SetBody
 pub mod RepeatBody
 pub mod Turns
--- The theorems about the definitions, a file each.
 pub mod Every
 pub mod Invariant
 pub mod Ends
@@ -12,7 +11,6 @@ pub mod Passes
 pub mod RowLaws
 pub mod RowsKept
 pub mod AnswerRows
--- The theorems about the definitions of specs/.
 pub mod Once
 -- The theorems about the definitions of specs/.
 pub mod First
@@ -27,3 +25,5 @@ pub mod Header
 pub mod WalkFinds
 pub mod WalkAccepts
 pub mod Lawful
+pub mod Ecma
+pub mod EcmaReading
