@@ -27,3 +27,5 @@ pub mod WalkAccepts
 pub mod Lawful
 pub mod Ecma
 pub mod EcmaReading
+-- The theorems about the definitions.
+pub mod Known
