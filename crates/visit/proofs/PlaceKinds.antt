@@ -1,0 +1,79 @@
+-- The kinds of place by number: what four numbers stand for, and what such a place does to a thread.
+use Prim.Native.Nat.{ℕ, zero, suc, _+_, _-_, _*_, _≤_, _<_}
+use mathlib.Core.Path.{_≡_, refl, sym, ap, _∙_, subst}
+use mathlib.Core.Bool.{Bool, true, false, cond, _&&_, _||_}
+use mathlib.Core.List.{List, [], _∷_}
+use native.Mathlib.Omega.{arith}
+use borrow.Author.Tests.{ne-eqb, eq-eqb}
+use lib.Dec.{eqb}
+use lib.ListN.{length, getD}
+use Rattle.paper.specs.Pattern.{Range}
+use Rattle.paper.specs.Reading.{inSet, takes, everyByte}
+use Rattle.paper.specs.Check.{rangesOf, part}
+use Rattle.paper.specs.Machine.{Place, Thread, at, State, Move, follow, moveAt}
+use Rattle.paper.specs.Tables.{placeOf}
+use Rattle.visit.specs.Moves.{takesAt}
+use Rattle.visit.proofs.Ranges.{takes-held, takes-none, takes-every}
+
+-- ---- the byte that a place takes
+
+-- a set of the pattern
+pub eats-set : (pattern line : List ℕ) (kind next a n q p : ℕ) → kind ≡ 6 → q ≡ p → q < length line
+    → inSet (rangesOf (part pattern a (a + 2 * n))) (getD line q 0) ≡ takesAt (placeOf pattern kind next a n) line p
+eats-set pattern line kind next a n q p e same h =
+    sym (takes-held (rangesOf (part pattern a (a + 2 * n))) line q h)
+    ∙ (ap (λ (i : ℕ). takes (rangesOf (part pattern a (a + 2 * n))) line i) same
+    ∙ ap (λ (k : ℕ). takesAt (placeOf pattern k next a n) line p) (sym e))
+
+-- the set of every byte
+pub eats-any : (pattern line : List ℕ) (kind next a n q p : ℕ) → kind ≡ 7 → q ≡ p → q < length line → getD line q 0 < 256
+    → true ≡ takesAt (placeOf pattern kind next a n) line p
+eats-any pattern line kind next a n q p e same h small =
+    sym (takes-every line q h small)
+    ∙ (ap (λ (i : ℕ). takes everyByte line i) same ∙ ap (λ (k : ℕ). takesAt (placeOf pattern k next a n) line p) (sym e))
+
+-- no place takes a byte behind the line
+takes-nothing : (place : Place) (line : List ℕ) (p : ℕ) → length line ≤ p → takesAt place line p ≡ false
+takes-nothing (Place.set ranges next) line p h = takes-none ranges line p h
+takes-nothing Place.stop line p h = refl
+takes-nothing (Place.fork a b) line p h = refl
+takes-nothing (Place.opening k next) line p h = refl
+takes-nothing (Place.closing k next) line p h = refl
+takes-nothing (Place.begin first n next) line p h = refl
+takes-nothing (Place.beginOptional first n next) line p h = refl
+takes-nothing (Place.ending next) line p h = refl
+takes-nothing Place.accept line p h = refl
+
+pub eats-end : (pattern line : List ℕ) (kind next a n q p : ℕ) → q ≡ p → length line ≤ q → false ≡ takesAt (placeOf pattern kind next a n) line p
+eats-end pattern line kind next a n q p same h = sym (takes-nothing (placeOf pattern kind next a n) line p (omega arith))
+
+-- a place of another kind takes none
+no-set : (b0 b1 b2 b3 b4 b5 b9 : Bool) (p0 p1 p2 p3 p4 p5 : ℕ → ℕ → ℕ → Place) (next a n : ℕ) (line : List ℕ) (p : ℕ)
+    → takesAt (p0 next a n) line p ≡ false → takesAt (p1 next a n) line p ≡ false → takesAt (p2 next a n) line p ≡ false
+    → takesAt (p3 next a n) line p ≡ false → takesAt (p4 next a n) line p ≡ false → takesAt (p5 next a n) line p ≡ false
+    → takesAt (cond b0 (p0 next a n) (cond b1 (p1 next a n) (cond b2 (p2 next a n) (cond b3 (p3 next a n) (cond b4 (p4 next a n) (cond b5 (p5 next a n)
+    (cond b9 Place.accept Place.stop))))))) line p ≡ false
+no-set true b1 b2 b3 b4 b5 b9 p0 p1 p2 p3 p4 p5 next a n line p h0 h1 h2 h3 h4 h5 = h0
+no-set false true b2 b3 b4 b5 b9 p0 p1 p2 p3 p4 p5 next a n line p h0 h1 h2 h3 h4 h5 = h1
+no-set false false true b3 b4 b5 b9 p0 p1 p2 p3 p4 p5 next a n line p h0 h1 h2 h3 h4 h5 = h2
+no-set false false false true b4 b5 b9 p0 p1 p2 p3 p4 p5 next a n line p h0 h1 h2 h3 h4 h5 = h3
+no-set false false false false true b5 b9 p0 p1 p2 p3 p4 p5 next a n line p h0 h1 h2 h3 h4 h5 = h4
+no-set false false false false false true b9 p0 p1 p2 p3 p4 p5 next a n line p h0 h1 h2 h3 h4 h5 = h5
+no-set false false false false false false true p0 p1 p2 p3 p4 p5 next a n line p h0 h1 h2 h3 h4 h5 = refl
+no-set false false false false false false false p0 p1 p2 p3 p4 p5 next a n line p h0 h1 h2 h3 h4 h5 = refl
+
+-- the place of a number that is neither 6 nor 7
+other-kind : (pattern : List ℕ) (kind next a n : ℕ) → (kind ≡ 6 → ⊥) → (kind ≡ 7 → ⊥)
+    → placeOf pattern kind next a n
+    ≡ cond (eqb kind 0) (Place.fork next a) (cond (eqb kind 1) (Place.opening a next) (cond (eqb kind 2) (Place.closing a next)
+    (cond (eqb kind 3) (Place.begin a n next) (cond (eqb kind 4) (Place.beginOptional a n next) (cond (eqb kind 5) (Place.ending next)
+    (cond (eqb kind 9) Place.accept Place.stop))))))
+other-kind pattern kind next a n h6 h7 = rw (ne-eqb kind 6 h6, ne-eqb kind 7 h7)
+
+pub eats-none : (pattern line : List ℕ) (kind next a n p : ℕ) → (kind ≡ 6 → ⊥) → (kind ≡ 7 → ⊥)
+    → false ≡ takesAt (placeOf pattern kind next a n) line p
+eats-none pattern line kind next a n p h6 h7 =
+    sym (ap (λ (x : Place). takesAt x line p) (other-kind pattern kind next a n h6 h7)
+    ∙ no-set (eqb kind 0) (eqb kind 1) (eqb kind 2) (eqb kind 3) (eqb kind 4) (eqb kind 5) (eqb kind 9)
+    (λ x y m. Place.fork x y) (λ x y m. Place.opening y x) (λ x y m. Place.closing y x) (λ x y m. Place.begin y m x)
+    (λ x y m. Place.beginOptional y m x) (λ x y m. Place.ending x) next a n line p refl refl refl refl refl refl)

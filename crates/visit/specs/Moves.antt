@@ -1,0 +1,57 @@
+-- What the small functions of a visit promise: each is the definition's move at a place of some kind, whatever the visit that goes on from there.
+use Prim.Native.Nat.{ℕ, _+_, _*_, _≤_, _<_}
+use mathlib.Core.Path.{_≡_}
+use mathlib.Core.Bool.{Bool, true, false, cond}
+use mathlib.Core.List.{List}
+use lib.Dec.{eqb}
+use lib.ListN.{length, getD, set}
+use Rattle.paper.specs.Pattern.{Range}
+use Rattle.paper.specs.Rows.{Rows}
+use Rattle.paper.specs.Reading.{takes}
+use Rattle.paper.specs.Machine.{Place, Thread, at, State, follow, moveAt}
+use Rattle.paper.specs.Tables.{placeOf, setPlace, stopPlace}
+use Rattle.visit.specs.Threads.{stored}
+use Rattle.visit.specs.Wired.{levelAfter}
+use Rattle.visit.specs.Shows.{Shows, Carried}
+
+-- whether a place takes the byte at a position
+abbrev pub takesAt : Place → List ℕ → ℕ → Bool
+takesAt (Place.set ranges next) line p = takes ranges line p
+takesAt Place.stop line p = false
+takesAt (Place.fork a b) line p = false
+takesAt (Place.opening k next) line p = false
+takesAt (Place.closing k next) line p = false
+takesAt (Place.begin first n next) line p = false
+takesAt (Place.beginOptional first n next) line p = false
+takesAt (Place.ending next) line p = false
+takesAt Place.accept line p = false
+
+-- a thread carried to a follower: marked, and stored behind the others if it had no mark
+pub record Carries (taken list : List ℕ) (next stamp : ℕ) (rows : Rows) (count : ℕ) (taken′ list′ : List ℕ) (count′ : ℕ) : Type 0 where
+  pub marked : taken′ ≡ set taken next stamp
+  pub kept : list′ ≡ cond (eqb (getD taken next 0) stamp) list (stored list count next rows)
+  pub counted : count′ ≡ cond (eqb (getD taken next 0) stamp) count (count + 1)
+
+-- a place that leads on at once: where to, on which level and with which rows, or that it does not
+pub record Leads (kind a n p level : ℕ) (rows : Rows) (goes : Bool) (level′ : ℕ) (rows′ : Rows) : Type 0 where
+  pub raises : level′ ≡ levelAfter kind level
+  pub follows : (pattern line : List ℕ) (next place : ℕ) (visit : Thread → State → State) (s : State)
+      → follow visit (at place level rows) (moveAt (placeOf pattern kind next a n) line p level rows) s ≡ cond goes (visit (at next level′ rows′) s) s
+
+-- what a place that leads nowhere at once asks
+pub record Settling (pattern : List ℕ) (p kind next a n : ℕ) (taken list : List ℕ) (count : ℕ) : Type 0 where
+  pub last : setPlace ≤ kind
+  pub early : p < 65535
+  pub few : length taken < 65536
+  pub inside : kind < stopPlace → next < length taken
+  pub ranges : kind ≡ setPlace → a + 2 * n ≤ length pattern
+  pub carried : Carried (length taken) (p + 1) taken list count
+
+-- what it leaves: the state after its move, whatever is seen
+pub record Settles (pattern line : List ℕ) (p kind next a n : ℕ) (rows : Rows) (taken list : List ℕ) (count : ℕ) (taken′ list′ : List ℕ) (count′ : ℕ) (done : Bool)
+    : Type 0 where
+  pub carried : Carried (length taken) (p + 1) taken′ list′ count′
+  pub shows : (places : ℕ) (seen : List ℕ) (steps place level : ℕ) (visit : Thread → State → State) (s : State)
+      → Shows places (p + 1) seen taken list count steps false s
+      → Shows places (p + 1) seen taken′ list′ count′ steps done
+      (follow visit (at place level rows) (moveAt (placeOf pattern kind next a n) line p level rows) s)

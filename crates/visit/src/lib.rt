@@ -1,0 +1,148 @@
+// One position of the line: an arrival at a place with all that it leads to there. The tables are lent; nothing is allocated.
+ghost use mathlib.Core.Path.{_≡_};
+ghost use mathlib.Core.Bool.{not};
+ghost use Prim.Native.Nat.{ℕ, _+_, _*_, _≤_, _<_, _^_};
+ghost use lib.Dec.{eqb};
+ghost use lib.ListN.{length, getD, set};
+ghost use Rattle.paper.specs.Rows.{clear};
+ghost use Rattle.paper.specs.Reading.{inSet};
+ghost use Rattle.paper.specs.Check.{rangesOf, part};
+ghost use Rattle.paper.specs.Tables.{placeOf};
+ghost use Rattle.visit.specs.Threads.{stored, rowsIn, left};
+ghost use Rattle.visit.specs.Wired.{kindAt, nextAt, firstAt, manyAt, Slots};
+ghost use Rattle.visit.specs.Shows.{Arrives, Visits};
+ghost use Rattle.visit.specs.Moves.{takesAt, Carries, Leads, Settling, Settles};
+
+// The four numbers of a place.
+pub struct Numbers {
+    pub kind: usize,
+    pub next: usize,
+    pub a: usize,
+    pub n: usize,
+}
+
+// Where a place leads at once: whether it does, the level there and the rows.
+pub struct Onward {
+    pub goes: bool,
+    pub level: usize,
+    pub rows: [u16; 20],
+}
+
+// What a place that leads nowhere at once leaves: how many threads are carried, and whether a thread has won.
+pub struct Settled {
+    pub count: usize,
+    pub done: bool,
+}
+
+// A number of a table as an index.
+pub fn wide(x: u16) -> usize
+    ensures { λ r. ⌜ r ≡ x ⌝ }
+{
+    x as usize
+}
+
+// The numbers of a place.
+pub fn numbers_of(code: &[u16], place: usize) -> Numbers
+    requires { ⌜ 4 * place + 3 < length (now code) ⌝ }
+    ensures { λ r. ⌜ (r .kind ≡ kindAt (now (code .entry)) place) × (r .next ≡ nextAt (now (code .entry)) place) × (r .a ≡ firstAt (now (code .entry)) place) × (r .n ≡ manyAt (now (code .entry)) place) ⌝ }
+{
+    let b = 4 * place;
+    Numbers {
+        kind: wide(code[b]),
+        next: wide(code[b + 1]),
+        a: wide(code[b + 2]),
+        n: wide(code[b + 3]),
+    }
+}
+
+// Whether ranges of the pattern, left to right, hold a byte.
+pub fn in_set(pattern: &[u8], offset: usize, count: usize, byte: u8) -> bool
+    requires { ⌜ offset + 2 * count ≤ length (now pattern) ⌝ }
+    ensures { λ r. ⌜ r ≡ inSet (rangesOf (part (now (pattern .entry)) offset (offset + 2 * count))) byte ⌝ }
+{
+    let mut p = offset;
+    let mut many = count;
+    while 0 < many {
+        if pattern[p] <= byte {
+            if byte <= pattern[p + 1] {
+                return true;
+            }
+        }
+        p = p + 2;
+        many = many - 1;
+    }
+    false
+}
+
+// Whether a place takes the byte at a position. Kind 6 is a set of the pattern, 7 the set of every byte.
+pub fn eats(pattern: &[u8], line: &[u8], kind: usize, a: usize, n: usize, at: u16) -> bool
+    requires { ⌜ (kind ≡ 6 → a + 2 * n ≤ length (now pattern)) ⌝ }
+    ensures { λ r. ⌜ ((next : ℕ) → r ≡ takesAt (placeOf (now (pattern .entry)) kind next a n) (now (line .entry)) at) ⌝ }
+{
+    let p = wide(at);
+    if p < line.len() {
+        if kind == 6 {
+            return in_set(pattern, a, n, line[p]);
+        }
+        if kind == 7 {
+            return true;
+        }
+    }
+    false
+}
+
+// As many rows from the first on made absent.
+pub fn cleared(groups: [u16; 20], first: usize, count: usize) -> [u16; 20]
+    requires { ⌜ first + count ≤ 10 ⌝ }
+    ensures { λ r. ⌜ r ≡ clear first count groups ⌝ }
+{
+    let mut rows = groups;
+    let mut k = first;
+    let mut many = count;
+    while 0 < many {
+        rows[2 * k] = 65535;
+        rows[2 * k + 1] = 65535;
+        k = k + 1;
+        many = many - 1;
+    }
+    rows
+}
+
+// Writes a thread at an index of a list.
+pub fn store(list: &mut [u16], index: usize, place: u16, groups: [u16; 20])
+    requires { ⌜ 21 * index + 21 ≤ length (now list) ⌝ }
+    ensures { λ _. ⌜ now (list .exit) ≡ stored (now (list .entry)) index place groups ⌝ }
+{
+    let b = 21 * index;
+    list[b] = place;
+    let mut j = 0;
+    while j < 20 {
+        list[b + 1 + j] = groups[j];
+        j = j + 1;
+    }
+}
+
+// The rows of the thread at an index of a list.
+pub fn load(list: &[u16], index: usize) -> [u16; 20]
+    requires { ⌜ 21 * index + 21 ≤ length (now list) ⌝ }
+    ensures { λ r. ⌜ r ≡ rowsIn (now (list .entry)) index ⌝ }
+{
+    let b = 21 * index + 1;
+    let mut rows = [0u16; 20];
+    let mut j = 0;
+    while j < 20 {
+        rows[j] = list[b + j];
+        j = j + 1;
+    }
+    rows
+}
+
+// Stamps an entry of a table; whether it had another stamp.
+pub fn mark(table: &mut [u16], index: usize, stamp: u16) -> bool
+    requires { ⌜ index < length (now table) ⌝ }
+    ensures { λ r. ⌜ (r ≡ not (eqb (getD (now (table .entry)) index 0) stamp)) × (now (table .exit) ≡ set (now (table .entry)) index stamp) ⌝ }
+{
+    let fresh = table[index] != stamp;
+    table[index] = stamp;
+    fresh
+}
