@@ -80,3 +80,15 @@ rowsOrNone (some rows) = rows
 abbrev pub tableAfter : Checked Found → List ℕ → List ℕ
 tableAfter (refused number place) table = table
 tableAfter (accepted found) table = rowsOrNone (found .rows) ++ drop tableNumbers table
+
+-- what the answer itself tells: a match or none, and the steps; the rows stand in the table
+pub record Told : Type 0 where
+  pub matched : Bool
+  pub steps : ℕ
+
+abbrev pub isMatch : Option Rows → Bool
+isMatch none = false
+isMatch (some rows) = true
+
+abbrev pub told : Checked Found → Checked Told
+told answer = answer >>= λ found. accepted (record { matched = isMatch (found .rows); steps = found .steps })
