@@ -29,3 +29,5 @@ pub mod Ecma
 pub mod EcmaReading
 -- The theorems about the definitions.
 pub mod Known
+pub mod Unseen
+pub mod Visit
