@@ -1,16 +1,13 @@
 -- The header of a record: it is accepted exactly when the record ends inside its holder and its kind's number is in the table.
-use Prim.Native.Nat.{ℕ, zero, suc, _+_, _≤_, _<_}
-use native.Mathlib.Omega.{arith}
-use mathlib.Core.Path.{_≡_, refl, _∙_, ap, subst}
+use Prim.Native.Nat.{ℕ, zero, suc, _≤_}
+use mathlib.Core.Path.{_≡_, refl, _∙_, ap}
 use mathlib.Core.Bool.{Bool, true, false, cond}
-use mathlib.Core.List.{List, [], _∷_, _++_}
+use mathlib.Core.List.{List, [], _∷_}
 use lib.Dec.{leb, eqb}
-use lib.ListN.{length}
 use borrow.Author.Tests.{leb-true, le-leb, eqb-true}
-use Rattle.paper.specs.Refusal.{Checked, refused, accepted, _>>=_, _>>_, holds, brokenRecord, tooDeep}
-use Rattle.paper.specs.Pattern.{Pattern}
+use Rattle.paper.specs.Refusal.{refused, accepted, brokenRecord, tooDeep}
 use Rattle.paper.specs.Layout.{Kind, nothingKind, emptyKind, bytesKind, groupKind, sequenceKind, alternationKind, repeatKind, kinds, kindNumber}
-use Rattle.paper.specs.Check.{bodyLength, kindAt, bodyStart, bodyEnd, kindAmong, header, body, walkRecord}
+use Rattle.paper.specs.Check.{kindAt, bodyEnd, kindAmong, header, body, walkRecord}
 use Rattle.paper.proofs.Accepted.{refused-not-accepted, accepted-injective, bind-accepted, holds-accepted, holds-passes}
 use Rattle.paper.proofs.Turns.{Within}
 

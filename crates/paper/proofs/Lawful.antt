@@ -1,32 +1,44 @@
 -- A byte string is accepted as a pattern exactly when it is the record of a tree that keeps the layout and the limits, and that tree is the answer.
 -- What the walk accepts is there (WalkFinds), and what is there is accepted (WalkAccepts).
-use Prim.Native.Nat.{ℕ, zero, suc, _+_, _-_, _*_, _≤_, _<_}
+use Prim.Native.Nat.{ℕ, _+_, _≤_, _<_}
 use native.Mathlib.Omega.{arith}
-use mathlib.Core.Path.{_≡_, refl, sym, _∙_, ap, subst}
+use mathlib.Core.Path.{_≡_, sym, _∙_, ap, subst}
 use mathlib.Core.Logic.{_↔_}
-use mathlib.Core.List.{List, [], _∷_, _++_}
+use mathlib.Core.List.{List}
 use lib.Dec.{leb, eqb}
 use lib.ListN.{length}
 use borrow.Author.Tests.{leb-true, le-leb, eqb-true, eq-eqb}
 use Rattle.paper.specs.Limits.{patternBytes, patternLevels, patternGroups, patternPlaces}
-use Rattle.paper.specs.Refusal.{Checked, refused, accepted, _>>=_, _>>_, holds, patternTooLong, brokenRecord, tooManyPlaces}
+use Rattle.paper.specs.Refusal.{Checked, accepted, _>>=_, _>>_, holds, patternTooLong, brokenRecord, tooManyPlaces}
 use Rattle.paper.specs.Pattern.{Pattern, allPlaces, groups, levels}
 use Rattle.paper.specs.Layout.{recordOf, WellMade, Lawful}
-use Rattle.paper.specs.Check.{bodyEnd, part, walkRecord, patternOf}
+use Rattle.paper.specs.Check.{bodyEnd, part, walkRecord, patternOf, Numbers, numbersOf, check}
 use Rattle.paper.proofs.Accepted.{accepted-injective, bind-accepted, holds-accepted, holds-passes}
-use Rattle.paper.proofs.Standing.{Bytes, Stands, stands-part, part-standing, stands-whole, whole-standing}
+use Rattle.paper.proofs.Standing.{twoByteEnd, Bytes, Stands, stands-part, part-standing, stands-whole, whole-standing}
 use Rattle.paper.proofs.TreeRecord.{end-standing}
-use Rattle.paper.proofs.WalkFinds.{Found, walk-finds}
+use Rattle.paper.proofs.Header.{walk-within}
+use Rattle.paper.proofs.WalkFinds.{walk-finds}
 use Rattle.paper.proofs.WalkAccepts.{Fitting, walk-accepts}
 
 -- ---- one record
 
 -- an accepted record is its tree's record, byte for byte
-pub accepted-part : (bs : List ℕ) → Bytes bs → (left at stop before : ℕ) (e : Pattern) → stop ≤ length bs → bodyEnd bs at ≤ stop → walkRecord left bs at stop before ≡ accepted e
+pub accepted-part : (bs : List ℕ) → Bytes bs → (left at stop before : ℕ) (e : Pattern) → stop ≤ length bs → walkRecord left bs at stop before ≡ accepted e
     → part bs at (bodyEnd bs at) ≡ recordOf e
-accepted-part bs small left at stop before e inside ends accepts =
+accepted-part bs small left at stop before e inside accepts =
     let found = walk-finds bs small left at stop before e inside accepts in
+    let ends = walk-within left bs at stop before e accepts in
     part-standing bs at (bodyEnd bs at) (recordOf e) (sym (found .ends)) (omega arith) (found .stands)
+
+-- where the record of a tree is found that keeps the table and fits its holder and the limits, the walk accepts that tree, and the record ends behind its bytes
+pub part-accepted : (bs : List ℕ) (left at stop before : ℕ) (e : Pattern) → part bs at (at + length (recordOf e)) ≡ recordOf e → at + length (recordOf e) ≤ stop → stop ≤ length bs
+    → length (recordOf e) < twoByteEnd → WellMade e → levels e ≤ left → before + groups e ≤ patternGroups
+    → (walkRecord left bs at stop before ≡ accepted e) × (bodyEnd bs at ≡ at + length (recordOf e))
+part-accepted bs left at stop before e same ends inside short made low few =
+    let stands = subst (Stands bs at) same (stands-part bs at (at + length (recordOf e)) (omega arith) (omega arith)) in (
+      walk-accepts bs left at stop before e (record { stands = stands; ends = ends; inside = inside; short = short; made = made; low = low; few = few }),
+      end-standing bs at e short stands,
+    )
 
 -- the groups of an accepted record, with those before it, are not too many
 pub accepted-groups : (bs : List ℕ) → Bytes bs → (left at stop before : ℕ) (e : Pattern) → stop ≤ length bs → walkRecord left bs at stop before ≡ accepted e
@@ -100,3 +112,18 @@ accepted-iff-lawful bs small = (
 pub lawful-unique : (e f : Pattern) → Lawful e → Lawful f → recordOf e ≡ recordOf f → e ≡ f
 lawful-unique e f lawful also same =
     accepted-injective (sym (lawful-accepted e lawful) ∙ ap patternOf same ∙ lawful-accepted f also)
+
+-- checking answers the numbers of the lawful tree whose record the bytes are, and answers numbers for no other bytes
+pub check-exactly : (bs : List ℕ) → Bytes bs → (numbers : Numbers) → (check bs ≡ accepted numbers) ↔ ((e : Pattern) × Lawful e × (recordOf e ≡ bs) × (numbersOf e ≡ numbers))
+check-exactly bs small numbers = (there, back)
+  where
+    there : check bs ≡ accepted numbers → (e : Pattern) × Lawful e × (recordOf e ≡ bs) × (numbersOf e ≡ numbers)
+    there accepts =
+        let (e, found, f) = bind-accepted (patternOf bs) (λ e. accepted (numbersOf e)) accepts in
+        let (lawful, same) = accepted-lawful bs small e found in
+        (e, lawful, same, accepted-injective f)
+
+    back : (e : Pattern) × Lawful e × (recordOf e ≡ bs) × (numbersOf e ≡ numbers) → check bs ≡ accepted numbers
+    back a =
+        ap (λ (c : Checked Pattern). c >>= λ e. accepted (numbersOf e)) (accepted-exactly bs small (a .0) .1 (a .1, a .2))
+        ∙ ap (λ (n : Numbers). accepted n) (a .3)

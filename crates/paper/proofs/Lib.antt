@@ -31,3 +31,4 @@ pub mod EcmaReading
 pub mod Known
 pub mod Unseen
 pub mod Visit
+pub mod RecordBytes

@@ -1,11 +1,10 @@
 -- The members of a sequence or an alternation as the plain list that the walk finds, and what is said of members as said of that list.
-use Prim.Native.Nat.{ℕ, zero, suc, _+_, _≤_, _<_, max}
+use Prim.Native.Nat.{ℕ, suc, _+_, _≤_}
 use native.Mathlib.Omega.{arith}
 use mathlib.Core.Path.{_≡_, refl, sym, _∙_, ap}
 use mathlib.Core.Logic.{_↔_}
 use mathlib.Core.List.{List, [], _∷_, _++_, append-nil}
-use lib.ListN.{length}
-use Rattle.paper.specs.Refusal.{Checked, refused, accepted, _>>=_}
+use Rattle.paper.specs.Refusal.{accepted, _>>=_}
 use Rattle.paper.specs.Pattern.{Pattern, Members, groups, groupsOfAll, levels, levelsOfAll}
 use Rattle.paper.specs.Pattern.Pattern.{sequence, alternation}
 use Rattle.paper.specs.Pattern.Members.{two, more}

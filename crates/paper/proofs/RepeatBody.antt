@@ -1,15 +1,16 @@
 -- The three numbers of a repeat: the test that the walk makes is what is asked of the counts, and the numbers and the counts determine each other.
-use Prim.Native.Nat.{ℕ, zero, suc, _+_, _-_, _*_, _≤_, _<_}
+use Prim.Native.Nat.{ℕ, _≤_, _<_}
 use native.Mathlib.Omega.{arith}
-use mathlib.Core.Path.{_≡_, refl, sym, _∙_, ap, subst}
+use mathlib.Core.Path.{_≡_, refl, sym, ap}
 use mathlib.Core.Logic.{_⊎_, inl, inr}
 use mathlib.Core.Bool.{Bool, true, false, cond, _&&_, _||_}
 use lib.Dec.{leb, eqb}
-use borrow.Author.Tests.{leb-true, le-leb, eqb-true, eqb-false, eq-eqb, ne-eqb}
+use borrow.Author.Tests.{leb-true, le-leb, eqb-true, eqb-false, ne-eqb}
 use Rattle.paper.specs.Limits.{repeatCount, noUpperEnd}
 use Rattle.paper.specs.Pattern.{Mode, greedy, lazy, Upper, upTo, noEnd}
 use Rattle.paper.specs.Layout.{upperNumber, modeNumber, CountsRight}
 use Rattle.paper.specs.Check.{repeatNumbersRight, upperOf, modeOf}
+use Rattle.paper.proofs.Standing.{twoByteEnd}
 use Rattle.paper.proofs.Accepted.{both-true, and-true, either-true, or-true-left}
 
 -- the number of the upper end that a number stands for is that number, and so with the mode
@@ -60,7 +61,7 @@ mode-of-number greedy = refl
 mode-of-number lazy = refl
 
 -- counts that keep the rule are in order, and two bytes hold their numbers
-pub counts-small : (least : ℕ) (upper : Upper) → CountsRight least upper → (least ≤ repeatCount) × (least ≤ upperNumber upper) × (upperNumber upper < 65536)
+pub counts-small : (least : ℕ) (upper : Upper) → CountsRight least upper → (least ≤ repeatCount) × (least ≤ upperNumber upper) × (upperNumber upper < twoByteEnd)
 counts-small least (upTo most) right = omega arith
 counts-small least noEnd right = omega arith
 

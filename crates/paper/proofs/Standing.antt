@@ -1,6 +1,6 @@
 -- Bytes that stand at an offset of a byte string, and the numbers and records that are read there.
 -- Two bytes below 256 and the number that they make determine each other; a record is its two numbers and its body, one behind the other.
-use Prim.Native.Nat.{ℕ, zero, suc, _+_, _-_, _*_, _/_, _%_, _≤_, _<_}
+use Prim.Native.Nat.{ℕ, zero, suc, _+_, _-_, _*_, _≤_, _<_}
 use native.Mathlib.Omega.{arith}
 use native.Mathlib.Numerals.{add-one}
 use mathlib.Core.Path.{_≡_, refl, sym, _∙_, ap, subst}
@@ -8,11 +8,15 @@ use mathlib.Core.List.{List, [], _∷_, _++_}
 use lib.ListN.{length, getD, take, drop, length-drop}
 use lib.Seq.{drop-cons, length-take-le, take-all, take-length}
 use Rattle.paper.specs.Layout.{twoBytes, recordBytes}
-use Rattle.paper.specs.Check.{numberAt, bodyLength, kindAt, bodyStart, bodyEnd, part}
+use Rattle.paper.specs.Check.{numberAt, bodyLength, kindAt, bodyStart, part}
 
 -- every element is a byte
 abbrev pub Bytes : List ℕ → Type 0
 Bytes bs = (i : ℕ) → getD bs i 0 < 256
+
+-- the first number that two bytes cannot hold
+abbrev pub twoByteEnd : ℕ
+twoByteEnd = 256 * 256
 
 -- the bytes `xs` stand in `bs` from the offset `at` on
 abbrev pub Stands : List ℕ → ℕ → List ℕ → Type 0
@@ -75,14 +79,14 @@ pub whole-standing : (bs xs : List ℕ) → length xs ≡ length bs → Stands b
 whole-standing bs xs e s = sym (part-standing bs 0 (length bs) xs (omega arith) (omega arith) s) ∙ take-all (length bs - 0) bs (omega arith)
 
 -- two bytes make a number below 65,536, whose two bytes they are
-pub number-small : (bs : List ℕ) → Bytes bs → (at : ℕ) → numberAt bs at < 65536
+pub number-small : (bs : List ℕ) → Bytes bs → (at : ℕ) → numberAt bs at < twoByteEnd
 number-small bs small at = omega (arith, small at, small (at + 1))
 
 pub stands-number : (bs : List ℕ) → Bytes bs → (at n : ℕ) → numberAt bs at ≡ n → Stands bs at (twoBytes n)
 stands-number bs small at n e = (omega (arith, small at, small (at + 1)), (omega (arith, small at, small (at + 1)), tt))
 
 -- a number below 65,536 is read where its two bytes stand
-pub number-standing : (bs : List ℕ) (at n : ℕ) → n < 65536 → Stands bs at (twoBytes n) → numberAt bs at ≡ n
+pub number-standing : (bs : List ℕ) (at n : ℕ) → n < twoByteEnd → Stands bs at (twoBytes n) → numberAt bs at ≡ n
 number-standing bs at n small s = omega arith
 
 -- a record stands where its two numbers are read and its body stands
@@ -101,7 +105,7 @@ pub record Standing (bs : List ℕ) (at kind : ℕ) (body : List ℕ) : Type 0 w
   pub named : kindAt bs at ≡ kind
   pub inside : Stands bs (bodyStart at) body
 
-pub record-standing : (bs : List ℕ) (at kind : ℕ) (body : List ℕ) → length body < 65536 → kind < 65536 → Stands bs at (recordBytes kind body) → Standing bs at kind body
+pub record-standing : (bs : List ℕ) (at kind : ℕ) (body : List ℕ) → length body < twoByteEnd → kind < twoByteEnd → Stands bs at (recordBytes kind body) → Standing bs at kind body
 record-standing bs at kind body small known s =
     let head = stands-first bs at (twoBytes (length body) ++ twoBytes kind) body s in
     record {

@@ -1,14 +1,14 @@
 -- The record of a tree as one record: its kind and its body, whatever its kind is.
-use Prim.Native.Nat.{ℕ, _+_, _≤_, _<_}
+use Prim.Native.Nat.{ℕ, _+_, _<_}
 use native.Mathlib.Omega.{arith}
 use mathlib.Core.Path.{_≡_, refl, _∙_, ap, subst}
-use mathlib.Core.List.{List, [], _∷_, _++_}
+use mathlib.Core.List.{List, [], _++_}
 use lib.ListN.{length}
 use Rattle.paper.specs.Pattern.{Pattern}
 use Rattle.paper.specs.Pattern.Pattern.{nothing, empty, bytes, group, sequence, alternation, repeat}
 use Rattle.paper.specs.Layout.{recordBytes, Kind, nothingKind, emptyKind, bytesKind, groupKind, sequenceKind, alternationKind, repeatKind, kindNumber, rangeBytes, repeatBytes, recordOf, recordsOf}
 use Rattle.paper.specs.Check.{bodyEnd}
-use Rattle.paper.proofs.Standing.{Stands, Standing, record-standing}
+use Rattle.paper.proofs.Standing.{twoByteEnd, Stands, Standing, record-standing}
 
 abbrev pub kindOf : Pattern → Kind
 kindOf nothing = nothingKind
@@ -41,7 +41,7 @@ record-of-body (repeat least upper mode e) = refl
 pub length-record : (e : Pattern) → length (recordOf e) ≡ 4 + length (bodyOf e)
 length-record e = ap length (record-of-body e) ∙ omega arith
 
-kind-small : (k : Kind) → kindNumber k < 65536
+kind-small : (k : Kind) → kindNumber k < twoByteEnd
 kind-small nothingKind = omega arith
 kind-small emptyKind = omega arith
 kind-small bytesKind = omega arith
@@ -51,11 +51,11 @@ kind-small alternationKind = omega arith
 kind-small repeatKind = omega arith
 
 -- a tree's record that stands at an offset has its numbers and its body there
-pub tree-standing : (bs : List ℕ) (at : ℕ) (e : Pattern) → length (recordOf e) < 65536 → Stands bs at (recordOf e) → Standing bs at (kindNumber (kindOf e)) (bodyOf e)
+pub tree-standing : (bs : List ℕ) (at : ℕ) (e : Pattern) → length (recordOf e) < twoByteEnd → Stands bs at (recordOf e) → Standing bs at (kindNumber (kindOf e)) (bodyOf e)
 tree-standing bs at e short s =
     record-standing bs at (kindNumber (kindOf e)) (bodyOf e) (omega (arith, length-record e)) (kind-small (kindOf e))
     (subst (λ (l : List ℕ). Stands bs at l) (record-of-body e) s)
 
 -- so it ends where its bytes end
-pub end-standing : (bs : List ℕ) (at : ℕ) (e : Pattern) → length (recordOf e) < 65536 → Stands bs at (recordOf e) → bodyEnd bs at ≡ at + length (recordOf e)
+pub end-standing : (bs : List ℕ) (at : ℕ) (e : Pattern) → length (recordOf e) < twoByteEnd → Stands bs at (recordOf e) → bodyEnd bs at ≡ at + length (recordOf e)
 end-standing bs at e short s = omega (arith, tree-standing bs at e short s .size, length-record e)

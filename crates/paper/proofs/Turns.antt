@@ -1,6 +1,6 @@
 -- The turns of the two walks over records: with as many turns as bytes are left, more turns change nothing, and the walk ends where the bytes end.
 -- Each record takes four bytes at least, so each turn leaves fewer bytes, and turns are left over as long as bytes are.
-use Prim.Native.Nat.{ℕ, zero, suc, _+_, _-_, _*_, _≤_, _<_}
+use Prim.Native.Nat.{ℕ, zero, suc, _+_, _-_, _≤_, _<_}
 use native.Mathlib.Omega.{arith}
 use native.Mathlib.Nat.{le-antisymm}
 use mathlib.Core.Path.{_≡_, refl, sym, _∙_, ap, subst, subst₂}
@@ -9,7 +9,7 @@ use mathlib.Core.List.{List, [], _∷_}
 use lib.Dec.{leb, ltb}
 use lib.ListN.{length}
 use borrow.Author.Tests.{ltb-true, ltb-false, le-ltb, lt-ltb, leb-true}
-use Rattle.paper.specs.Refusal.{Checked, refused, accepted, _>>=_, _>>_, holds, templateWrong}
+use Rattle.paper.specs.Refusal.{Checked, accepted, _>>=_, templateWrong}
 use Rattle.paper.specs.Pattern.{Pattern, groups}
 use Rattle.paper.specs.Check.{bodyEnd, kindAt, Walk, walkAll}
 use Rattle.paper.specs.Template.{Piece, pieceAt, pieceOfKind, piecesFrom}

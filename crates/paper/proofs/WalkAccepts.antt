@@ -1,22 +1,21 @@
 -- What is there is accepted: where the record of a tree stands that keeps the table and the limits, the walk accepts that tree.
 -- By recursion on the tree and its members.
-use Prim.Native.Nat.{ℕ, zero, suc, _+_, _-_, _*_, _≤_, _<_}
+use Prim.Native.Nat.{ℕ, zero, suc, _+_, _-_, _≤_, _<_}
 use native.Mathlib.Omega.{arith}
-use mathlib.Core.Path.{_≡_, refl, sym, _∙_, ap, subst}
-use mathlib.Core.Bool.{Bool, true, false}
+use mathlib.Core.Path.{_≡_, refl, _∙_, ap, subst}
 use mathlib.Core.List.{List, [], _∷_, _++_}
-use lib.Dec.{leb, ltb, eqb}
+use lib.Dec.{eqb}
 use lib.ListN.{length, length-append}
 use borrow.Author.Tests.{lt-ltb, le-leb, eq-eqb}
 use Rattle.paper.specs.Limits.{patternGroups}
-use Rattle.paper.specs.Refusal.{Checked, refused, accepted, _>>=_, _>>_, holds, brokenRecord, setWrong, repeatWrong, tooManyGroups}
+use Rattle.paper.specs.Refusal.{Checked, accepted, _>>=_, _>>_, holds, brokenRecord, setWrong, repeatWrong, tooManyGroups}
 use Rattle.paper.specs.Pattern.{Mode, Upper, Range, Pattern, Members, groups, groupsOfAll, levels, levelsOfAll}
 use Rattle.paper.specs.Pattern.Pattern.{nothing, empty, bytes, group, sequence, alternation, repeat}
 use Rattle.paper.specs.Pattern.Members.{two, more}
-use Rattle.paper.specs.Layout.{twoBytes, kindNumber, upperNumber, modeNumber, repeatBytes, rangeBytes, recordOf, recordsOf, CountsRight, WellMade, AllWellMade}
-use Rattle.paper.specs.Check.{numberAt, bodyLength, kindAt, bodyStart, bodyEnd, part, bare, rangesOf, setRight, byteSet, repeatNumbersRight, upperOf, modeOf, repeatHead, Walk, single, walkAll, atLeastTwo, several, body, header, walkRecord}
+use Rattle.paper.specs.Layout.{twoBytes, kindNumber, upperNumber, modeNumber, repeatBytes, rangeBytes, recordOf, recordsOf, WellMade, AllWellMade}
+use Rattle.paper.specs.Check.{numberAt, bodyLength, bodyStart, bodyEnd, part, bare, rangesOf, setRight, repeatNumbersRight, upperOf, modeOf, repeatHead, single, walkAll, atLeastTwo, body, walkRecord}
 use Rattle.paper.proofs.Accepted.{holds-passes}
-use Rattle.paper.proofs.Standing.{Stands, Standing, stands-at, stands-first, stands-second, number-standing, part-standing}
+use Rattle.paper.proofs.Standing.{twoByteEnd, Stands, Standing, stands-first, stands-second, number-standing, part-standing}
 use Rattle.paper.proofs.SetBody.{ranges-of-bytes, right-set}
 use Rattle.paper.proofs.RepeatBody.{upper-of-number, mode-of-number, counts-small, mode-small, right-numbers}
 use Rattle.paper.proofs.Turns.{walk-all-none, walk-all-accepts}
@@ -29,7 +28,7 @@ pub record Fitting (bs : List ℕ) (left at stop before : ℕ) (e : Pattern) : T
   pub stands : Stands bs at (recordOf e)
   pub ends : at + length (recordOf e) ≤ stop
   pub inside : stop ≤ length bs
-  pub short : length (recordOf e) < 65536
+  pub short : length (recordOf e) < twoByteEnd
   pub made : WellMade e
   pub low : levels e ≤ left
   pub few : before + groups e ≤ patternGroups
@@ -39,7 +38,7 @@ record FittingAll (bs : List ℕ) (left at stop before : ℕ) (ms : Members) : T
   stands : Stands bs at (recordsOf ms)
   ends : at + length (recordsOf ms) ≡ stop
   inside : stop ≤ length bs
-  short : length (recordsOf ms) < 65536
+  short : length (recordsOf ms) < twoByteEnd
   made : AllWellMade ms
   low : levelsOfAll ms ≤ left
   few : before + groupsOfAll ms ≤ patternGroups
@@ -178,7 +177,7 @@ module _ (bs : List ℕ) where
 
   -- a member that stands before other bytes of its holder fits into it
   front-fits : (a : Pattern) (others : List ℕ) (left at stop before : ℕ) → Stands bs at (recordOf a ++ others) → at + length (recordOf a ++ others) ≡ stop → stop ≤ length bs
-      → length (recordOf a ++ others) < 65536 → WellMade a → levels a ≤ left → before + groups a ≤ patternGroups → Fitting bs left at stop before a
+      → length (recordOf a ++ others) < twoByteEnd → WellMade a → levels a ≤ left → before + groups a ≤ patternGroups → Fitting bs left at stop before a
   front-fits a others left at stop before stands ends inside short made low few =
       let size = length-append (recordOf a) others in
       record {

@@ -1,22 +1,21 @@
 -- What the walk accepts is there: where it accepts a tree, the tree's record stands, ends where the record ends, and keeps the table and the limits.
 -- By recursion on the levels left; inside a sequence or an alternation by the induction over the walk's turns.
-use Prim.Native.Nat.{ℕ, zero, suc, _+_, _-_, _*_, _≤_, _<_}
+use Prim.Native.Nat.{ℕ, zero, suc, _+_, _≤_, _<_}
 use native.Mathlib.Omega.{arith}
 use mathlib.Core.Path.{_≡_, refl, sym, _∙_, ap, subst}
-use mathlib.Core.Bool.{Bool, true, false}
 use mathlib.Core.List.{List, [], _∷_, _++_}
 use lib.Dec.{leb, ltb, eqb}
 use lib.ListN.{length, length-append}
-use borrow.Author.Tests.{ltb-true, leb-true, eqb-true}
+use borrow.Author.Tests.{ltb-true, eqb-true}
 use Rattle.paper.specs.Limits.{patternGroups}
-use Rattle.paper.specs.Refusal.{Checked, refused, accepted, _>>=_, _>>_, holds, brokenRecord, setWrong, repeatWrong, tooDeep, tooManyGroups}
+use Rattle.paper.specs.Refusal.{refused, accepted, _>>=_, _>>_, holds, brokenRecord, setWrong, repeatWrong, tooDeep, tooManyGroups}
 use Rattle.paper.specs.Pattern.{Pattern, Members, groups, levels}
 use Rattle.paper.specs.Pattern.Pattern.{nothing, empty, bytes, group, sequence, alternation, repeat}
-use Rattle.paper.specs.Layout.{twoBytes, Kind, nothingKind, emptyKind, bytesKind, groupKind, sequenceKind, alternationKind, repeatKind, kindNumber, upperNumber, modeNumber, repeatBytes, rangeBytes, recordOf, recordsOf, WellMade}
+use Rattle.paper.specs.Layout.{twoBytes, Kind, nothingKind, emptyKind, bytesKind, groupKind, sequenceKind, alternationKind, repeatKind, kindNumber, upperNumber, modeNumber, repeatBytes, recordOf, WellMade}
 use Rattle.paper.specs.Check.{numberAt, bodyLength, kindAt, bodyStart, bodyEnd, part, header, bare, rangesOf, setRight, byteSet, repeatNumbersRight, upperOf, modeOf, repeatHead, Walk, single, walkAll, atLeastTwo, several, body, walkRecord}
 use Rattle.paper.proofs.Accepted.{refused-not-accepted, accepted-injective, bind-accepted, holds-accepted}
 use Rattle.paper.proofs.Standing.{Bytes, Stands, stands-at, stands-append, stands-number, stands-record, stands-part, length-part}
-use Rattle.paper.proofs.SetBody.{length-range-bytes, bytes-of-ranges, bytes-part, set-right}
+use Rattle.paper.proofs.SetBody.{bytes-of-ranges, bytes-part, set-right}
 use Rattle.paper.proofs.RepeatBody.{upper-number-of, numbers-right}
 use Rattle.paper.proofs.Turns.{Within, walk-all-induction}
 use Rattle.paper.proofs.MemberList.{listOf, joined, groupsIn, Each, list-accepted, records-joined, groups-listed, all-well-made, levels-listed, Holder, sequence-holds, alternation-holds}
