@@ -12,7 +12,6 @@ pub mod RowLaws
 pub mod RowsKept
 pub mod AnswerRows
 pub mod Once
--- The theorems about the definitions of specs/.
 pub mod First
 pub mod Untouched
 pub mod Tree
@@ -27,8 +26,9 @@ pub mod WalkAccepts
 pub mod Lawful
 pub mod Ecma
 pub mod EcmaReading
--- The theorems about the definitions.
 pub mod Known
 pub mod Unseen
 pub mod Visit
 pub mod RecordBytes
+pub mod Moved
+pub mod MovedMachine

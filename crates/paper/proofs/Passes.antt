@@ -16,7 +16,7 @@ use Rattle.paper.proofs.Invariant.{Sound}
 use Rattle.paper.proofs.Ends.{Within, pass-ends}
 
 -- past p, and up to n where p is not past it
-abbrev Beyond : ℕ → ℕ → ℕ → Rows → Type 0
+abbrev pub Beyond : ℕ → ℕ → ℕ → Rows → Type 0
 Beyond n p q rows = (p < q) × (q ≤ max p n)
 
 -- an outcome of a pass that consumes ends past where the pass began
