@@ -1,6 +1,6 @@
 -- The rows of an answer: of a whole match and of a search, row 0 spans a part of the line, every other row is absent twice or such a span,
 -- and the rows beyond the pattern's groups are absent. It holds of every outcome, so of the first that ends at the line's end.
-use Prim.Native.Nat.{ℕ, zero, suc, _+_, _*_, _≤_, _<_}
+use Prim.Native.Nat.{ℕ, _+_, _*_, _≤_, _<_}
 use mathlib.Core.Path.{_≡_, refl, subst, _∙_}
 use mathlib.Core.Logic.{inl, inr}
 use mathlib.Core.Bool.{Bool, true, false, cond}
@@ -14,12 +14,12 @@ use Rattle.paper.specs.Limits.{tableNumbers, absent}
 use Rattle.paper.specs.Pattern.{Mode, greedy, lazy, noEnd, Pattern, groups}
 use Rattle.paper.specs.Pattern.Pattern.{group, repeat}
 use Rattle.paper.specs.Rows.{Rows, noRows, rowStart, rowEnd, setRow}
-use Rattle.paper.specs.Reading.{Outcome, Reading, inTurn, read}
+use Rattle.paper.specs.Reading.{Outcome, inTurn, read}
 use Rattle.paper.specs.Match.{firstAt, withRow0, wholeMatch, anyByte, wrap, search}
 use Rattle.paper.proofs.Every.{Property, Every, every-bind, every-weaken, every-both}
 use Rattle.paper.proofs.Ends.{Within, ends}
 use Rattle.paper.proofs.RowLaws
-use Rattle.paper.proofs.RowsKept.{RowFits, away, spans, RowsFit, Fitting, Outside, Untouched, noRows-fit, absent-everywhere, setRow-fits, rows-fit, rows-untouched, group-set}
+use Rattle.paper.proofs.RowsKept.{spans, RowsFit, Fitting, Outside, Untouched, noRows-fit, absent-everywhere, setRow-fits, rows-fit, rows-untouched, group-set}
 
 -- what holds of the rows of an answer, if there is one
 abbrev pub Answered : (Rows → Type 0) → Option Rows → Type 0

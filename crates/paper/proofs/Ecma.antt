@@ -1,15 +1,15 @@
 -- ECMA-262's matcher for the patterns of this project, written beside its clause 22.2.2 (Pattern Semantics) step by step, as a second definition.
 -- Nothing here is used by a contract: `EcmaReading` proves that this matcher takes the outcomes of the ordered reading in their order.
 use Prim.Native.Nat.{ℕ, zero, suc, _+_}
-use mathlib.Core.Bool.{Bool, true, false, cond}
-use mathlib.Core.List.{List, [], _∷_}
+use mathlib.Core.Bool.{cond}
+use mathlib.Core.List.{List, []}
 use mathlib.Core.Option.{Option, none, some}
 use lib.Dec.{leb, eqb}
 use lib.ListN.{length, getD}
 use Rattle.paper.specs.Pattern.{Mode, greedy, lazy, Upper, upTo, noEnd, Range, Pattern, Members, groups}
 use Rattle.paper.specs.Pattern.Pattern.{nothing, empty, bytes, group, sequence, alternation, repeat}
 use Rattle.paper.specs.Pattern.Members.{two, more}
-use Rattle.paper.specs.Rows.{Rows, setRow, clear}
+use Rattle.paper.specs.Rows.{setRow, clear}
 use Rattle.paper.specs.Reading.{Outcome, inSet}
 
 -- 22.2.2.1, MatchState: an end index and the captures. An outcome has the same two parts; an undefined capture is an absent row

@@ -15,13 +15,13 @@ use Rattle.paper.specs.Pattern.Pattern.{nothing, empty, bytes, group, se
 use Rattle.paper.specs.Pattern.Members.{two, more}
 use Rattle.paper.specs.Layout.{CountsRight, WellMade, AllWellMade}
 use Rattle.paper.specs.Rows.{Rows, noRows, setRow}
-use Rattle.paper.specs.Reading.{Outcome, Reading, here, bind, inTurn, orElse, inSet, takes, oneByte, spanning, grouped, passOf, mustPasses, unlessAt, consuming, prefer, optionalPasses, optionalCount, repeated, read, readSequence, readAlternation}
+use Rattle.paper.specs.Reading.{Outcome, Reading, here, bind, inTurn, orElse, inSet, oneByte, spanning, grouped, passOf, mustPasses, unlessAt, consuming, prefer, optionalPasses, optionalCount, read, readSequence, readAlternation}
 use Rattle.paper.specs.Match.{firstAt, extract}
 use Rattle.paper.proofs.Every.{Property, Every}
 use Rattle.paper.proofs.Invariant.{Sound}
 use Rattle.paper.proofs.Ends.{Within, pass-ends}
 use Rattle.paper.proofs.Passes.{one-pass-then-all}
-use Rattle.paper.proofs.Ecma.{MatchState, MatchResult, failure, Continuation, Matcher, unlessFailure, emptyMatcher, matchSequence, matchTwoAlternatives, characterSetMatcher, captureMatcher, lessOne, afterPass, undefinedCaptures, passOrGoOn, unlessNoneLeft, repeatMatcher, compile, compileSequence, compileAlternation}
+use Rattle.paper.proofs.Ecma.{MatchState, MatchResult, failure, Continuation, Matcher, unlessFailure, matchSequence, matchTwoAlternatives, characterSetMatcher, captureMatcher, undefinedCaptures, passOrGoOn, repeatMatcher, compile, compileSequence, compileAlternation}
 
 -- the first state, in order, from which the continuation does not fail
 abbrev pub firstSuccess : Continuation → List Outcome → MatchResult

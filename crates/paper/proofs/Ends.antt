@@ -4,9 +4,7 @@ use mathlib.Core.List.{List}
 use native.Mathlib.Omega.{arith}
 use lib.ListN.{length}
 use Rattle.paper.specs.Pattern.{Pattern, groups}
-use Rattle.paper.specs.Rows.{Rows}
 use Rattle.paper.specs.Reading.{passOf, read}
-use Rattle.paper.proofs.Every.{Every}
 use Rattle.paper.proofs.Invariant.{Relation, Kept, Sound, passOf-sound, read-sound}
 
 -- from p on, and up to n where p is not past it already

@@ -1,19 +1,19 @@
 -- One induction over patterns: a relation from where a reading starts to where an outcome ends holds of every outcome
 -- as soon as it is kept by each thing that a reading does: standing still, going on, taking a byte, setting a row, clearing a row.
-use Prim.Native.Nat.{ℕ, zero, suc, _+_, _-_, _≤_, _<_}
+use Prim.Native.Nat.{ℕ, zero, suc, _+_, _≤_, _<_}
 use mathlib.Core.Path.{_≡_, refl}
 use mathlib.Core.Bool.{Bool, true, false, cond, _&&_}
-use mathlib.Core.List.{List, [], _∷_, _++_}
+use mathlib.Core.List.{List, []}
 use lib.Dec.{eqb, ltb}
 use lib.ListN.{length, getD}
 use native.Mathlib.Omega.{arith}
 use borrow.Author.Tests.{ltb-true}
 use Rattle.paper.specs.Limits.{absent}
-use Rattle.paper.specs.Pattern.{Mode, greedy, lazy, Upper, Range, Pattern, Members, groups, groupsOfAll}
+use Rattle.paper.specs.Pattern.{Mode, greedy, lazy, Range, Pattern, Members, groups, groupsOfAll}
 use Rattle.paper.specs.Pattern.Pattern.{nothing, empty, bytes, group, sequence, alternation, repeat}
 use Rattle.paper.specs.Pattern.Members.{two, more}
 use Rattle.paper.specs.Rows.{Rows, setRow, clear}
-use Rattle.paper.specs.Reading.{Outcome, Reading, here, bind, inTurn, orElse, inSet, takes, oneByte, spanning, grouped, passOf, mustPasses, unlessAt, consuming, prefer, optionalPasses, optionalCount, repeated, read, readSequence, readAlternation}
+use Rattle.paper.specs.Reading.{Reading, here, inTurn, orElse, inSet, takes, oneByte, spanning, grouped, passOf, mustPasses, unlessAt, consuming, prefer, optionalPasses, optionalCount, read, readSequence, readAlternation}
 use Rattle.paper.proofs.Every.{Every, every-append, every-bind, every-weaken}
 
 -- a relation from a start (position and rows) to an end (position and rows)

@@ -32,3 +32,5 @@ pub mod Visit
 pub mod RecordBytes
 pub mod Moved
 pub mod MovedMachine
+pub mod ScanTurns
+pub mod ReplaceBound

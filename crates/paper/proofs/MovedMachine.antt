@@ -1,9 +1,9 @@
 -- The machine inside a line makes the steps that it makes on the rest as a line of its own, and stops with the rest's rows moved.
 -- A thread's rows decide nothing, a place's test sees only bytes and the line's end, and setting a row commutes with the move.
 use Prim.Native.Nat.{ℕ, zero, suc, _+_, _≤_, _<_}
-use mathlib.Core.Path.{_≡_, refl, sym, ap, ap₂, _∙_}
+use mathlib.Core.Path.{_≡_, refl, sym, ap, _∙_}
 use mathlib.Core.Bool.{Bool, true, false, cond, _||_}
-use mathlib.Core.List.{List, [], _∷_, _++_, map, map-append}
+use mathlib.Core.List.{List, [], _∷_, map, map-append}
 use mathlib.Core.Option.{Option, none, some, Option·map}
 use native.Mathlib.Omega.{arith}
 use native.Mathlib.Nat.{add-suc, add-zero}
@@ -13,7 +13,7 @@ use Rattle.paper.specs.Limits.{lineBytes, absent}
 use Rattle.paper.specs.Pattern.{Pattern}
 use Rattle.paper.specs.Rows.{Rows, noRows}
 use Rattle.paper.specs.Reading.{takes}
-use Rattle.paper.specs.Machine.{Place, set, stop, fork, opening, closing, begin, beginOptional, ending, accept, Thread, at, Move, die, win, eat, split, goOn, moveAt, State, fresh, isSeen, isWon, blocked, mark, carry, stopWith, follow, arrive, visit, visits, Stopped, matched, unmatched, settle, run, pairs, placesOf, machine, stepsOf, rowsOf}
+use Rattle.paper.specs.Machine.{Place, set, stop, fork, opening, closing, begin, beginOptional, ending, accept, Thread, at, Move, die, win, eat, split, goOn, moveAt, State, fresh, isSeen, isWon, blocked, mark, follow, arrive, visit, visits, Stopped, matched, unmatched, settle, run, pairs, placesOf, machine, stepsOf, rowsOf}
 use Rattle.paper.specs.Match.{wrap, searchSteps}
 use Rattle.paper.specs.Replace.{moved}
 use Rattle.paper.proofs.Moved.{takes-moved, end-moved, setStart-moved, setEnd-moved, clear-moved}

@@ -1,5 +1,5 @@
 -- More optional passes than the line has bytes left change nothing: each takes a byte at least, and past the line's end there is none.
-use Prim.Native.Nat.{ℕ, zero, suc, _+_, _-_, _≤_, _<_, max}
+use Prim.Native.Nat.{ℕ, zero, suc, _-_, _≤_, _<_, max}
 use mathlib.Core.Path.{_≡_, refl, sym, ap, fun-ext}
 use mathlib.Core.Bool.{Bool, true, false, cond}
 use mathlib.Core.List.{List, [], _∷_, _++_}
@@ -10,7 +10,7 @@ use borrow.Author.Tests.{eqb-false}
 use Rattle.paper.specs.Pattern.{Mode, greedy, lazy, Pattern, noEnd, groups}
 use Rattle.paper.specs.Pattern.Pattern.{repeat}
 use Rattle.paper.specs.Rows.{Rows}
-use Rattle.paper.specs.Reading.{Outcome, Reading, here, bind, inTurn, orElse, unlessAt, consuming, prefer, optionalPasses, mustPasses, repeated, passOf, read}
+use Rattle.paper.specs.Reading.{Outcome, Reading, here, bind, inTurn, unlessAt, consuming, prefer, optionalPasses, mustPasses, repeated, passOf, read}
 use Rattle.paper.proofs.Every.{Every, every-bind, bind-agree}
 use Rattle.paper.proofs.Invariant.{Sound}
 use Rattle.paper.proofs.Ends.{Within, pass-ends}

@@ -1,12 +1,11 @@
 -- What setting and clearing a row does to the list of rows, number by number and row by row.
 use Prim.Native.Nat.{ℕ, zero, suc, _+_, _*_, _≤_, _<_}
 use mathlib.Core.Path.{_≡_, refl, _∙_}
-use mathlib.Core.List.{List}
 use native.Mathlib.Omega.{arith}
-use lib.ListN.{length, getD, set, length-set}
+use lib.ListN.{length, getD, length-set}
 use lib.Seq.{getD-set-same, getD-set-other, set-out, lt-length-set}
 use Rattle.paper.specs.Limits.{absent}
-use Rattle.paper.specs.Rows.{Rows, rowStart, rowEnd, setStart, setEnd, setRow, clear}
+use Rattle.paper.specs.Rows.{Rows, rowStart, rowEnd, setStart, setRow, clear}
 
 -- setting a row keeps how many numbers there are
 pub length-setRow : (k start end : ℕ) (rows : Rows) → length (setRow k start end rows) ≡ length rows
