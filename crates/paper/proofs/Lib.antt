@@ -34,3 +34,4 @@ pub mod Moved
 pub mod MovedMachine
 pub mod ScanTurns
 pub mod ReplaceBound
+pub mod Refusals
