@@ -1,4 +1,6 @@
 -- The theorems about the definitions of specs/, one topic a file.
+pub mod Known
+pub mod Refusals
 pub mod Accepted
 pub mod Standing
 pub mod SetBody
