@@ -1,0 +1,187 @@
+-- What the inner functions of building ask and what they leave behind. Each promise holds for every tree that meets what was asked, so no promise names a tree of its own.
+use Prim.Native.Nat.{ℕ, zero, suc, _+_, _-_, _*_, _≤_, _<_}
+use mathlib.Core.Path.{_≡_}
+use mathlib.Core.Bool.{Bool, true, false, cond}
+use mathlib.Core.List.{List}
+use lib.Dec.{ltb, eqb}
+use lib.ListN.{length}
+use Rattle.paper.specs.Limits.{patternBytes, patternGroups, patternPlaces, rowCount, repeatCount, noUpperEnd}
+use Rattle.paper.specs.Pattern.{Mode, Upper, Pattern, places, groups, repeatPlaces}
+use Rattle.paper.specs.Check.{numberAt, bodyEnd, repeatHead, upperOf, modeOf}
+use Rattle.paper.specs.Machine.{Core, skip, maybe, star, musts, writtenOut, passFork}
+use Rattle.paper.specs.Tables.{placeNumbers, placeOf, setPlace}
+use Rattle.places.specs.Laid.{kindOf, nextOf, aOf, nOf, Holds, Kept, Lays, entryOf}
+use Rattle.places.specs.Standing.{Stands, Row, Passes, placesIn, groupsIn, rowPlaces, rowCore}
+
+-- the places of the largest pattern with a search's wrap around it
+abbrev pub mostPlaces : ℕ
+mostPlaces = patternPlaces + 10
+
+-- the table has room for them
+abbrev pub tableRoom : ℕ
+tableRoom = placeNumbers * mostPlaces
+
+-- what a number of a place can be
+abbrev pub mostNumber : ℕ
+mostNumber = 65535
+
+-- `put`: the numbers fit
+pub record Fitting (table : List ℕ) (x next a n : ℕ) : Type 0 where
+  pub room : placeNumbers * x + placeNumbers ≤ length table
+  pub next-fits : next ≤ mostNumber
+  pub a-fits : a ≤ mostNumber
+  pub n-fits : n ≤ mostNumber
+
+-- `put`: the four numbers stand at the place, and nothing else has changed
+pub record Put (before : List ℕ) (x kind next a n : ℕ) (after : List ℕ) : Type 0 where
+  pub kind-is : kindOf after x ≡ kind
+  pub next-is : nextOf after x ≡ next
+  pub a-is : aOf after x ≡ a
+  pub n-is : nOf after x ≡ n
+  pub kept : Kept x (x + 1) before after
+
+-- `pass_fork`: the fork of an optional pass
+pub record Forked (before : List ℕ) (x mode pass out : ℕ) (after : List ℕ) : Type 0 where
+  pub held : (p : List ℕ) → Holds after p x (passFork (modeOf mode) pass out)
+  pub kept : Kept x (x + 1) before after
+
+-- `capped`: the same number, where a pattern may have so many places
+pub record Capped (n r : ℕ) : Type 0 where
+  pub same : n ≤ patternPlaces → r ≡ n
+  pub small : r ≤ patternPlaces + 1
+
+-- where the records inside a record start, by the number of its kind
+abbrev pub insideStart : ℕ → ℕ → ℕ → ℕ
+insideStart kind start end = cond (ltb kind 3) end (cond (ltb kind 6) start (start + repeatHead))
+
+-- the numbers of a repeat are right: a least, and a most that is no less, or none
+pub record CountsRight (least most : ℕ) : Type 0 where
+  pub small : least ≤ repeatCount
+  pub right : (most ≡ noUpperEnd → ⊥) → (least ≤ most) × (most ≤ repeatCount)
+
+-- the places of a record by the number of its kind, from the places and the number of the records inside it
+abbrev pub ownPlaces : List ℕ → ℕ → ℕ → ℕ → ℕ → ℕ
+ownPlaces bs kind start p k =
+    cond (ltb kind 3) (cond (eqb kind 1) 0 1)
+    (cond (eqb kind 3) (p + 2)
+    (cond (eqb kind 4) p
+    (cond (eqb kind 5) (p + (k - 1)) (repeatPlaces (numberAt bs start) (upperOf (numberAt bs (start + 2))) p))))
+
+pub record OwnPlaces (bs : List ℕ) (kind start p k : ℕ) : Type 0 where
+  pub places-small : p ≤ patternPlaces + 1
+  pub records-small : k ≤ patternBytes
+  pub some : kind ≡ 5 → 1 ≤ k
+  pub here : 5 < kind → start + 4 ≤ length bs
+  pub numbers : 5 < kind → CountsRight (numberAt bs start) (numberAt bs (start + 2))
+
+abbrev pub ownGroups : ℕ → ℕ → ℕ
+ownGroups kind g = cond (eqb kind 3) (g + 1) g
+
+-- `count`: records stand from an offset up to the end of their holder
+pub record Counting (bs : List ℕ) (at stop : ℕ) : Type 0 where
+  pub records : List Pattern
+  pub stand : Row bs at stop records
+  pub ends : stop ≤ length bs
+  pub short : length bs ≤ patternBytes
+  pub few : groupsIn records ≤ patternGroups
+
+-- what records add up to
+pub record Summed (records : List Pattern) (p g k : ℕ) : Type 0 where
+  pub places-are : placesIn records ≤ patternPlaces → p ≡ placesIn records
+  pub groups-are : g ≡ groupsIn records
+  pub records-are : k ≡ length records
+
+pub record Counted (bs : List ℕ) (at stop p g k : ℕ) : Type 0 where
+  pub small : p ≤ patternPlaces + 1
+  pub sums : (m : Counting bs at stop) → Summed (m .records) p g k
+
+-- the record of a tree stands from an offset up to `stop`, its first group being number `first`
+pub record Inside (bs : List ℕ) (at stop first : ℕ) (e : Pattern) : Type 0 where
+  pub stand : Stands bs at e
+  pub end-is : bodyEnd bs at ≡ stop
+  pub ends : stop ≤ length bs
+  pub short : length bs ≤ patternBytes
+  pub few : first + groups e ≤ rowCount
+
+-- `one`: a record that has so many places, and room for them
+pub record One (bs : List ℕ) (at stop base next first n : ℕ) : Type 0 where
+  pub tree : Pattern
+  pub inside : Inside bs at stop first tree
+  pub places-are : n ≡ places tree
+  pub room : base + n ≤ mostPlaces
+  pub follows : next ≤ mostPlaces
+
+pub record OneLaid (bs : List ℕ) (at stop base next first n : ℕ) (before after : List ℕ) : Type 0 where
+  pub kept : Kept base (base + n) before after
+  pub laid : (m : One bs at stop base next first n) → Lays after bs (writtenOut (m .tree) first) base next
+
+-- `headed`: the place before an expression is an open, or a begin of a pass
+pub record Head (kind a n : ℕ) : Type 0 where
+  pub no-set : kind < setPlace
+  pub a-small : a ≤ rowCount
+  pub n-small : n ≤ rowCount
+
+pub record HeadLaid (bs : List ℕ) (at stop kind a n base next first p : ℕ) (before after : List ℕ) : Type 0 where
+  pub kept : Kept base (base + 1 + p) before after
+  pub head : Holds after bs base (placeOf bs kind (entryOf p (base + 1) next) a n)
+  pub laid : (m : One bs at stop (base + 1) next first p) → Lays after bs (writtenOut (m .tree) first) (base + 1) next
+
+-- `row`: at least one record, and room for all
+pub record Several (bs : List ℕ) (at stop : ℕ) (forks : Bool) (base next first n : ℕ) : Type 0 where
+  pub records : List Pattern
+  pub stand : Row bs at stop records
+  pub some : at < stop
+  pub ends : stop ≤ length bs
+  pub short : length bs ≤ patternBytes
+  pub few : first + groupsIn records ≤ rowCount
+  pub places-are : n ≡ rowPlaces forks records
+  pub room : base + n ≤ mostPlaces
+  pub follows : next ≤ mostPlaces
+
+pub record SeveralLaid (bs : List ℕ) (at stop : ℕ) (forks : Bool) (base next first n : ℕ) (before after : List ℕ) : Type 0 where
+  pub kept : Kept base (base + n) before after
+  pub laid : (m : Several bs at stop forks base next first n) → Lays after bs (rowCore forks (m .records) first) base next
+
+-- `passes`: passes that must be made, then optional ones; without an upper end there is one of these
+abbrev pub optionalCore : Bool → ℕ → Mode → ℕ → ℕ → Core → Core
+optionalCore true zero mode first n e = skip
+optionalCore true (suc may) mode first n e = star mode first n e
+optionalCore false zero mode first n e = skip
+optionalCore false (suc may) mode first n e = maybe mode first n e (optionalCore false may mode first n e)
+
+abbrev pub passCore : ℕ → Bool → ℕ → Mode → ℕ → ℕ → Core → Core
+passCore least endless may mode first n e = musts least first n e (optionalCore endless may mode first n e)
+
+abbrev pub passPlaces : ℕ → ℕ → ℕ → ℕ
+passPlaces least may p = least * (1 + p) + may * (3 + p)
+
+pub record Repeating (bs : List ℕ) (at stop least may : ℕ) (endless : Bool) (base next first g p : ℕ) : Type 0 where
+  pub tree : Pattern
+  pub inside : Inside bs at stop first tree
+  pub groups-are : g ≡ groups tree
+  pub places-are : p ≡ places tree
+  pub once : endless ≡ true → may ≤ 1
+  pub room : base + passPlaces least may p ≤ mostPlaces
+  pub follows : next ≤ mostPlaces
+
+pub record PassesLaid (bs : List ℕ) (at stop least may : ℕ) (endless : Bool) (mode base next first g p : ℕ) (before after : List ℕ) : Type 0 where
+  pub kept : Kept base (base + passPlaces least may p) before after
+  pub laid : (m : Repeating bs at stop least may endless base next first g p) → Lays after bs (passCore least endless may (modeOf mode) first g (writtenOut (m .tree) first)) base next
+
+-- `repeated`: a repeat's three numbers, and what it repeats
+pub record Repeat (bs : List ℕ) (start stop base next first : ℕ) : Type 0 where
+  pub least : ℕ
+  pub upper : Upper
+  pub mode : Mode
+  pub tree : Pattern
+  pub numbers : Passes bs start least upper mode
+  pub inside : Inside bs (start + repeatHead) stop first tree
+  pub small : places tree ≤ patternPlaces
+  pub few : groups tree ≤ patternGroups
+  pub room : base + repeatPlaces least upper (places tree) ≤ mostPlaces
+  pub follows : next ≤ mostPlaces
+
+pub record RepeatLaid (bs : List ℕ) (start stop base next first : ℕ) (before after : List ℕ) : Type 0 where
+  pub kept : (m : Repeat bs start stop base next first) → Kept base (base + repeatPlaces (m .least) (m .upper) (places (m .tree))) before after
+  pub laid : (m : Repeat bs start stop base next first)
+      → Lays after bs (writtenOut (Pattern.repeat (m .least) (m .upper) (m .mode) (m .tree)) first) base next

@@ -1,0 +1,34 @@
+-- The promise of building: the table holds exactly the places that paper lists for an accepted pattern, and whoever reads them stays in range.
+use Prim.Native.Nat.{ℕ, _+_, _*_, _≤_, _<_}
+use mathlib.Core.Path.{_≡_}
+use mathlib.Core.List.{List}
+use lib.ListN.{length, getD}
+use Rattle.paper.specs.Refusal.{accepted}
+use Rattle.paper.specs.Pattern.{Pattern, allPlaces}
+use Rattle.paper.specs.Check.{patternOf}
+use Rattle.paper.specs.Machine.{Place, placesOf}
+use Rattle.paper.specs.Match.{wrap}
+use Rattle.paper.specs.Tables.{placeNumbers, decode}
+use Rattle.places.specs.Laid.{Readable}
+
+-- checking takes the pattern, and this is its tree
+pub record Accepted (pattern : List ℕ) : Type 0 where
+  pub tree : Pattern
+  pub found : patternOf pattern ≡ accepted tree
+
+-- a table that holds a list of places: they are its first `count`, each in range, and behind them nothing has changed
+pub record Built (list : List Place) (count : ℕ) (pattern before after : List ℕ) : Type 0 where
+  pub decoded : decode after pattern count ≡ list
+  pub readable : (x : ℕ) → x < count → Readable after pattern x
+  pub same-length : length after ≡ length before
+  pub untouched : (i : ℕ) → placeNumbers * count ≤ i → getD after i 0 ≡ getD before i 0
+
+-- building for a whole match answers how many places the pattern has, and lists them
+pub record BuiltMatch (pattern before after : List ℕ) (answer : ℕ) (e : Pattern) : Type 0 where
+  pub count-is : answer ≡ allPlaces e
+  pub built : Built (placesOf e 1) (allPlaces e) pattern before after
+
+-- building for a search does the same of the pattern with the wrap around it
+pub record BuiltSearch (pattern before after : List ℕ) (answer : ℕ) (e : Pattern) : Type 0 where
+  pub count-is : answer ≡ allPlaces e + 10
+  pub built : Built (placesOf (wrap e) 0) (allPlaces e + 10) pattern before after
