@@ -4,15 +4,19 @@ use mathlib.Core.Path.{_≡_, refl, sym, ap, _∙_, subst}
 use mathlib.Core.Bool.{Bool, true, false, cond, _&&_, _||_}
 use mathlib.Core.List.{List, [], _∷_}
 use native.Mathlib.Omega.{arith}
+use native.Mathlib.Decide.{ℕ-discrete}
+use native.Mathlib.Numerals.{add-one}
 use borrow.Author.Tests.{ne-eqb, eq-eqb}
 use lib.Dec.{eqb}
-use lib.ListN.{length, getD}
+use lib.ListN.{length, getD, set}
 use Rattle.paper.specs.Pattern.{Range}
+use Rattle.paper.specs.Rows.{Rows, clear}
 use Rattle.paper.specs.Reading.{inSet, takes, everyByte}
 use Rattle.paper.specs.Check.{rangesOf, part}
 use Rattle.paper.specs.Machine.{Place, Thread, at, State, Move, follow, moveAt}
 use Rattle.paper.specs.Tables.{placeOf}
-use Rattle.visit.specs.Moves.{takesAt}
+use Rattle.visit.specs.Wired.{levelAfter, Slots}
+use Rattle.visit.specs.Moves.{takesAt, Leads}
 use Rattle.visit.proofs.Ranges.{takes-held, takes-none, takes-every}
 
 -- ---- the byte that a place takes
@@ -77,3 +81,60 @@ eats-none pattern line kind next a n p h6 h7 =
     ∙ no-set (eqb kind 0) (eqb kind 1) (eqb kind 2) (eqb kind 3) (eqb kind 4) (eqb kind 5) (eqb kind 9)
     (λ x y m. Place.fork x y) (λ x y m. Place.opening y x) (λ x y m. Place.closing y x) (λ x y m. Place.begin y m x)
     (λ x y m. Place.beginOptional y m x) (λ x y m. Place.ending x) next a n line p refl refl refl refl refl refl)
+
+-- ---- where a place leads at once
+
+module _ (kind a n p level : ℕ) (rows : Rows) where
+  -- open
+  pub leads-open : kind ≡ 1 → Leads kind a n p level rows true level (set rows (2 * a) p)
+  leads-open e = record {
+    raises = sym (ap (λ (k : ℕ). levelAfter k level) e);
+    follows = λ pattern line next place visit s. ap (λ (k : ℕ). follow visit (at place level rows) (moveAt (placeOf pattern k next a n) line p level rows) s) e;
+  }
+
+  -- close
+  pub leads-close : kind ≡ 2 → Leads kind a n p level rows true level (set rows (2 * a + 1) p)
+  leads-close e = record {
+    raises = sym (ap (λ (k : ℕ). levelAfter k level) e);
+    follows = λ pattern line next place visit s. ap (λ (k : ℕ). follow visit (at place level rows) (moveAt (placeOf pattern k next a n) line p level rows) s) e;
+  }
+
+  -- begin
+  pub leads-begin : (rows′ : Rows) → rows′ ≡ clear a n rows → kind ≡ 3 → Leads kind a n p level rows true level rows′
+  leads-begin rows′ same e = record {
+    raises = sym (ap (λ (k : ℕ). levelAfter k level) e);
+    follows = λ pattern line next place visit s.
+        ap (λ (k : ℕ). follow visit (at place level rows) (moveAt (placeOf pattern k next a n) line p level rows) s) e
+        ∙ ap (λ (r : Rows). visit (at next level r) s) (sym same);
+  }
+
+  -- begin optional
+  pub leads-begin-optional : (rows′ : Rows) → rows′ ≡ clear a n rows → kind ≡ 4 → Leads kind a n p level rows true (level + 1) rows′
+  leads-begin-optional rows′ same e = record {
+    raises = sym (ap (λ (k : ℕ). levelAfter k level) e);
+    follows = λ pattern line next place visit s.
+        ap (λ (k : ℕ). follow visit (at place level rows) (moveAt (placeOf pattern k next a n) line p level rows) s) e
+        ∙ (ap (λ (r : Rows). visit (at next (suc level) r) s) (sym same) ∙ ap (λ (l : ℕ). visit (at next l rows′) s) (sym (add-one level)));
+  }
+
+  at-zero : (b : Bool) (next place : ℕ) (visit : Thread → State → State) (s : State)
+      → follow visit (at place level rows) (cond b (Move.goOn (at next 0 rows)) Move.die) s ≡ cond b (visit (at next 0 rows) s) s
+  at-zero true next place visit s = refl
+  at-zero false next place visit s = refl
+
+  -- end
+  pub leads-end : kind ≡ 5 → Leads kind a n p level rows (eqb level 0) 0 rows
+  leads-end e = record {
+    raises = sym (ap (λ (k : ℕ). levelAfter k level) e);
+    follows = λ pattern line next place visit s.
+        ap (λ (k : ℕ). follow visit (at place level rows) (moveAt (placeOf pattern k next a n) line p level rows) s) e
+        ∙ at-zero (eqb level 0) next place visit s;
+  }
+
+-- the rows that a begin clears, optional or not, exist
+pub begin-slots : (kind a n : ℕ) → 0 < kind → kind < 6 → (kind ≡ 1 → ⊥) → (kind ≡ 2 → ⊥) → (kind ≡ 5 → ⊥) → Slots kind a n → a + n ≤ 10
+begin-slots kind a n low high n1 n2 n5 slots = look (ℕ-discrete kind 3)
+  where
+    look : Dec (kind ≡ 3) → a + n ≤ 10
+    look (yes e) = slots .begins e
+    look (no ne) = slots .begins-optional (omega arith)

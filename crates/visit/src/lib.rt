@@ -146,3 +146,67 @@ pub fn mark(table: &mut [u16], index: usize, stamp: u16) -> bool
     table[index] = stamp;
     fresh
 }
+
+// Carries a thread to a follower that none is carried to yet.
+pub fn carry(
+    taken: &mut [u16],
+    list: &mut [u16],
+    next: usize,
+    stamp: u16,
+    groups: [u16; 20],
+    count: usize,
+) -> usize
+    requires { ⌜ (next < length (now taken)) × (next < 65536) × (21 * count + 21 ≤ length (now list)) ⌝ }
+    ensures { λ r. ⌜ Carries (now (taken .entry)) (now (list .entry)) next stamp groups count (now (taken .exit)) (now (list .exit)) r ⌝ }
+{
+    if mark(taken, next, stamp) {
+        store(list, count, next as u16, groups);
+        count + 1
+    } else {
+        count
+    }
+}
+
+// A place that leads on at once, of kind 1 to 5: open, close, begin, begin optional, end.
+pub fn lead(kind: usize, a: usize, n: usize, at: u16, level: usize, groups: [u16; 20]) -> Onward
+    requires { ⌜ (0 < kind) × (kind < 6) × (level + 1 < 2 ^ 64) × Slots kind a n ⌝ }
+    ensures { λ r. ⌜ Leads kind a n at level groups (r .goes) (r .level) (r .rows) ⌝ }
+{
+    let mut rows = groups;
+    if kind == 1 {
+        rows[2 * a] = at;
+        return Onward {
+            goes: true,
+            level,
+            rows,
+        };
+    }
+    if kind == 2 {
+        rows[2 * a + 1] = at;
+        return Onward {
+            goes: true,
+            level,
+            rows,
+        };
+    }
+    if kind == 5 {
+        return Onward {
+            goes: level == 0,
+            level: 0,
+            rows,
+        };
+    }
+    rows = cleared(groups, a, n);
+    if kind == 4 {
+        return Onward {
+            goes: true,
+            level: level + 1,
+            rows,
+        };
+    }
+    Onward {
+        goes: true,
+        level,
+        rows,
+    }
+}

@@ -1,0 +1,113 @@
+-- Each kind does to level and rows what its move in the definition does.
+use Rattle.visit.proofs.PlaceKinds.{leads-open, leads-close, leads-begin, leads-begin-optional, leads-end, begin-slots}
+use native.Mathlib.Omega.{arith}
+use borrow.Author.Needs.{needs}
+use Rattle.visit.proofs.lead.Statement.{statement}
+use Rattle.visit.proofs.lead.Tie as tie
+use Rattle.visit.proofs.lead.Reads as reads
+use Rattle.visit.proofs.lead.Lts as lts
+use Rattle.visit.proofs.cleared.Reads as cleared-reads
+
+mul-rows : tie.Need-mul-rows
+mul-rows c =
+    let the-pre = c .before .pre in
+    let the-if1 = c .if1 in
+    omega (arith, the-pre .3 .opens (the-if1 .taken))
+
+mul-rows-2 : tie.Need-mul-rows-2
+mul-rows-2 c =
+    let the-pre = c .before .pre in
+    let the-if1 = c .if1 in
+    omega (arith, the-pre .3 .opens (the-if1 .taken))
+
+array-write-rows : tie.Need-array-write-rows
+array-write-rows c =
+    let the-pre = c .before .pre in
+    let the-if1 = c .if1 in
+    omega (arith, the-pre .3 .opens (the-if1 .taken))
+
+returns : tie.Need-returns
+returns c =
+    let the-args = c .before .args in
+    let the-if1 = c .if1 in
+    leads-open (the-args .kind) (the-args .a) (the-args .n) (the-args .at) (the-args .level) (the-args .groups) (the-if1 .taken)
+
+mul-rows-3 : tie.Need-mul-rows-3
+mul-rows-3 c =
+    let the-pre = c .before .before .pre in
+    let the-if2 = c .if2 in
+    omega (arith, the-pre .3 .closes (the-if2 .taken))
+
+add-rows : tie.Need-add-rows
+add-rows c =
+    let the-pre = c .before .before .pre in
+    let the-if2 = c .if2 in
+    omega (arith, the-pre .3 .closes (the-if2 .taken))
+
+mul-rows-4 : tie.Need-mul-rows-4
+mul-rows-4 c =
+    let the-pre = c .before .before .pre in
+    let the-if2 = c .if2 in
+    omega (arith, the-pre .3 .closes (the-if2 .taken))
+
+array-write-rows-2 : tie.Need-array-write-rows-2
+array-write-rows-2 c =
+    let the-pre = c .before .before .pre in
+    let the-if2 = c .if2 in
+    omega (arith, the-pre .3 .closes (the-if2 .taken))
+
+returns-2 : tie.Need-returns-2
+returns-2 c =
+    let the-args = c .before .before .args in
+    let the-if2 = c .if2 in
+    leads-close (the-args .kind) (the-args .a) (the-args .n) (the-args .at) (the-args .level) (the-args .groups) (the-if2 .taken)
+
+returns-3 : tie.Need-returns-3
+returns-3 c =
+    let the-args = c .before .before .before .args in
+    let the-if3 = c .if3 in
+    leads-end (the-args .kind) (the-args .a) (the-args .n) (the-args .at) (the-args .level) (the-args .groups) (the-if3 .taken)
+
+cleared-requires : tie.Need-cleared-requires
+cleared-requires c κs =
+    let the-args = c .before .before .before .args in
+    let the-pre = c .before .before .before .pre in
+    let the-if1 = c .before .before .if1 in
+    let the-if2 = c .before .if2 in
+    let the-if3 = c .if3 in
+    begin-slots (the-args .kind) (the-args .a) (the-args .n) (the-pre .0) (the-pre .1) (the-if1 .left) (the-if2 .left) (the-if3 .left) (the-pre .3)
+
+add-t23 : tie.Need-add-t23
+add-t23 c = search needs
+
+returns-4 : tie.Need-returns-4
+returns-4 c =
+    let the-args = c .before .before .before .before .before .args in
+    let the-cleared = c .before .cleared in
+    let the-if4 = c .if4 in
+    leads-begin-optional (the-args .kind) (the-args .a) (the-args .n) (the-args .at) (the-args .level) (the-args .groups) (the-cleared .result) (the-cleared .ensures) (the-if4 .taken)
+
+returns-5 : tie.Need-returns-5
+returns-5 c =
+    let the-args = c .before .before .before .before .before .args in
+    let the-cleared = c .before .cleared in
+    leads-begin (the-args .kind) (the-args .a) (the-args .n) (the-args .at) (the-args .level) (the-args .groups) (the-cleared .result) (the-cleared .ensures) (omega arith)
+
+pub lead-spec : {M : Type 1} → statement M
+lead-spec =
+    tie.close
+    (tie.spec
+    mul-rows
+    mul-rows-2
+    array-write-rows
+    returns
+    mul-rows-3
+    add-rows
+    mul-rows-4
+    array-write-rows-2
+    returns-2
+    returns-3
+    cleared-requires
+    add-t23
+    returns-4
+    returns-5)
