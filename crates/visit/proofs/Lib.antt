@@ -2,3 +2,6 @@
 pub mod Ranges
 pub mod Stores
 pub mod PlaceKinds
+pub mod Stamps
+pub mod Moving
+pub mod Carrying

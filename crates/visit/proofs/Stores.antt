@@ -1,6 +1,6 @@
 -- Threads in a lent list: what is copied in and out, what a store changes and what it leaves.
 use Prim.Native.Nat.{ℕ, zero, suc, _+_, _-_, _*_, _≤_, _<_}
-use mathlib.Core.Path.{_≡_, refl, sym, ap, _∙_, subst}
+use mathlib.Core.Path.{_≡_, refl, sym, ap, ap₂, _∙_, subst}
 use mathlib.Core.Bool.{Bool, true, false, cond, not}
 use mathlib.Core.List.{List, [], _∷_, _++_}
 use native.Mathlib.Omega.{arith}
@@ -8,10 +8,11 @@ use native.Mathlib.Decide.{ℕ-discrete}
 use native.Mathlib.Numerals.{add-one}
 use borrow.Author.Tests.{not-true, not-false}
 use lib.Dec.{eqb}
-use lib.ListN.{length, getD, take, drop, set, length-take, length-drop}
-use lib.Seq.{paste, getD-set-same, getD-set-other, getD-take, getD-drop, ext-getD}
+use lib.ListN.{length, getD, take, drop, set, length-take, length-drop, length-set, length-append, List·getD-append}
+use lib.Seq.{paste, getD-set-same, getD-set-other, getD-take, getD-drop, ext-getD, length-take-le, length-paste, drop-append-le, drop-at, take-at, take-all}
 use Rattle.paper.specs.Rows.{Rows}
-use Rattle.visit.specs.Threads.{stored}
+use Rattle.paper.specs.Machine.{Thread, at}
+use Rattle.visit.specs.Threads.{stored, placeIn, rowsIn, threads}
 use Rattle.visit.specs.Moves.{Carries}
 
 -- one number more is copied out of a list
@@ -59,3 +60,63 @@ module _ (taken list : List ℕ) (next stamp : ℕ) (rows : Rows) (count : ℕ) 
         kept = kept ∙ sym (ap (λ (b : Bool). cond b list (stored list count next rows)) already);
         counted = sym (ap (λ (b : Bool). cond b count (count + 1)) already);
       }
+
+-- ---- a thread stored
+
+module _ (list : List ℕ) (i place : ℕ) (rows : Rows) (long : length rows ≡ 20) (room : 21 * i + 21 ≤ length list) where
+  placed-long : length (set list (21 * i) place) ≡ length list
+  placed-long = length-set list (21 * i) place
+
+  head-long : length (take (21 * i + 1) (set list (21 * i) place)) ≡ 21 * i + 1
+  head-long = length-take-le (21 * i + 1) (set list (21 * i) place) (omega (arith, placed-long))
+
+  -- the list stays as long as it was
+  pub stored-long : length (stored list i place rows) ≡ length list
+  stored-long = length-paste (set list (21 * i) place) (21 * i + 1) rows 20 (omega (arith, placed-long)) (omega arith) ∙ placed-long
+
+  -- up to the place, the list is that with the place set
+  stored-head : (j : ℕ) → j < 21 * i + 1 → getD (stored list i place rows) j 0 ≡ getD (set list (21 * i) place) j 0
+  stored-head j h =
+      List·getD-append (take (21 * i + 1) (set list (21 * i) place) ++ take 20 rows) (drop (21 * i + 1 + 20) (set list (21 * i) place)) 0 j
+      (omega (arith, length-append (take (21 * i + 1) (set list (21 * i) place)) (take 20 rows), head-long))
+      ∙ (List·getD-append (take (21 * i + 1) (set list (21 * i) place)) (take 20 rows) 0 j (omega (arith, head-long))
+      ∙ getD-take (21 * i + 1) (set list (21 * i) place) j 0 h)
+
+  -- what stands before the thread is left
+  pub stored-before : (j : ℕ) → j < 21 * i → getD (stored list i place rows) j 0 ≡ getD list j 0
+  stored-before j h = stored-head j (omega arith) ∙ getD-set-other list (21 * i) j place 0 (λ e. omega arith)
+
+  -- its place is the one stored
+  pub stored-place : placeIn (stored list i place rows) i ≡ place
+  stored-place = stored-head (21 * i) (omega arith) ∙ getD-set-same list (21 * i) place 0 (omega arith)
+
+  -- its rows are those stored
+  pub stored-rows : rowsIn (stored list i place rows) i ≡ rows
+  stored-rows =
+      ap (take 20)
+      (drop-append-le (21 * i + 1) (take (21 * i + 1) (set list (21 * i) place) ++ take 20 rows) (drop (21 * i + 1 + 20) (set list (21 * i) place))
+      (omega (arith, length-append (take (21 * i + 1) (set list (21 * i) place)) (take 20 rows), head-long))
+      ∙ ap (λ (l : List ℕ). l ++ drop (21 * i + 1 + 20) (set list (21 * i) place))
+      (drop-at (take (21 * i + 1) (set list (21 * i) place)) (take 20 rows) (21 * i + 1) head-long))
+      ∙ (take-at (take 20 rows) (drop (21 * i + 1 + 20) (set list (21 * i) place)) 20 (length-take-le 20 rows (omega arith))
+      ∙ take-all 20 rows (omega arith))
+
+-- lists that agree below an index have the same rows there
+same-part : (l m : List ℕ) (b c : ℕ) → length l ≡ length m → ((j : ℕ) → j < b → getD l j 0 ≡ getD m j 0) → c + 20 ≤ b
+    → take 20 (drop c l) ≡ take 20 (drop c m)
+same-part l m b c long same h =
+    ext-getD 0 (take 20 (drop c l)) (take 20 (drop c m))
+    (omega (arith, length-take 20 (drop c l), length-drop c l, length-take 20 (drop c m), length-drop c m))
+    (λ j lt.
+    let below : j < 20 = omega (arith, length-take 20 (drop c l)) in
+    let inside : c + j < b = omega arith in
+    getD-take 20 (drop c l) j 0 below ∙ (getD-drop c l j 0 ∙ (same (c + j) inside ∙ (sym (getD-drop c m j 0) ∙ sym (getD-take 20 (drop c m) j 0 below)))))
+
+-- and the same threads
+pub same-threads : (l m : List ℕ) (n : ℕ) → length l ≡ length m → ((j : ℕ) → j < 21 * n → getD l j 0 ≡ getD m j 0) → threads l n ≡ threads m n
+same-threads l m zero long same = refl
+same-threads l m (suc n) long same =
+    let inside : 21 * n < 21 * suc n = omega arith in
+    let fits : 21 * n + 1 + 20 ≤ 21 * suc n = omega arith in
+    ap₂ (λ (x y : List Thread). x ++ y) (same-threads l m n long (λ j h. same j (omega arith)))
+    (ap₂ (λ (x : ℕ) (r : Rows). at x 0 r ∷ []) (same (21 * n) inside) (same-part l m (21 * suc n) (21 * n + 1) long same fits))
