@@ -12,7 +12,7 @@ use Rattle.paper.specs.Refusal.{Checked, accepted, _>>=_, _>>_, holds, b
 use Rattle.paper.specs.Pattern.{Mode, Upper, Range, Pattern, Members, groups, groupsOfAll, levels, levelsOfAll}
 use Rattle.paper.specs.Pattern.Pattern.{nothing, empty, bytes, group, sequence, alternation, repeat}
 use Rattle.paper.specs.Pattern.Members.{two, more}
-use Rattle.paper.specs.Layout.{twoBytes, kindNumber, upperNumber, modeNumber, repeatBytes, rangeBytes, recordOf, recordsOf, WellMade, AllWellMade}
+use Rattle.paper.specs.Layout.{twoBytes, kindNumber, upperNumber, modeNumber, repeatBytes, rangeBytes, recordOf, recordsOf, CountsRight, WellMade, AllWellMade}
 use Rattle.paper.specs.Check.{numberAt, bodyLength, bodyStart, bodyEnd, part, bare, rangesOf, setRight, repeatNumbersRight, upperOf, modeOf, repeatHead, single, walkAll, atLeastTwo, body, walkRecord}
 use Rattle.paper.proofs.Accepted.{holds-passes}
 use Rattle.paper.proofs.Standing.{twoByteEnd, Stands, Standing, stands-first, stands-second, number-standing, part-standing}
@@ -47,7 +47,9 @@ abbrev Accepts : List ℕ → Pattern → Type 0
 Accepts bs e = (left at stop before : ℕ) → Fitting bs left at stop before e → walkRecord left bs at stop before ≡ accepted e
 
 abbrev AcceptsAll : List ℕ → Members → Type 0
-AcceptsAll bs ms = (left at stop before turns : ℕ) → FittingAll bs left at stop before ms → stop - at ≤ turns → walkAll turns (walkRecord left bs) bs at stop before ≡ accepted (listOf ms)
+AcceptsAll bs ms =
+    (left at stop before turns : ℕ) → FittingAll bs left at stop before ms → stop - at ≤ turns
+    → walkAll turns (walkRecord left bs) bs at stop before ≡ accepted (listOf ms)
 
 levels-positive : (e : Pattern) → 1 ≤ levels e
 levels-positive nothing = omega arith
@@ -77,7 +79,8 @@ module _ (bs : List ℕ) where
   set-accepts ranges left at stop before fit =
       enters (bytes ranges) left at stop before fit λ here below _.
       let end = end-standing bs at (bytes ranges) (fit .short) (fit .stands) in
-      let read : part bs (bodyStart at) (bodyEnd bs at) ≡ rangeBytes ranges = part-standing bs (bodyStart at) (bodyEnd bs at) (rangeBytes ranges) (omega (arith, here .size)) (omega (arith, end, fit .ends, fit .inside)) (here .inside) in
+      let inside : bodyEnd bs at ≤ length bs = omega (arith, end, fit .ends, fit .inside) in
+      let read = part-standing bs (bodyStart at) (bodyEnd bs at) (rangeBytes ranges) (omega (arith, here .size)) inside (here .inside) in
       ap (λ (l : List ℕ). holds (setRight l) setWrong at >> accepted (bytes (rangesOf l))) read
       ∙ holds-passes setWrong at (accepted (bytes (rangesOf (rangeBytes ranges)))) (right-set ranges (fit .made))
       ∙ ap (λ (rs : List Range). accepted (bytes rs)) (ranges-of-bytes ranges)
@@ -108,6 +111,19 @@ module _ (bs : List ℕ) where
         few = omega (arith, fit .few);
       }))
 
+  -- the three numbers of a repeat are read where their bytes stand
+  numbers-read : (start least : ℕ) (upper : Upper) (mode : Mode) → CountsRight least upper → Stands bs start (repeatBytes least upper mode)
+      → (numberAt bs start ≡ least) × (numberAt bs (start + 2) ≡ upperNumber upper) × (numberAt bs (start + 4) ≡ modeNumber mode)
+  numbers-read start least upper mode counts stands =
+      let small = counts-small least upper counts in
+      let most = upperNumber upper in
+      let last = modeNumber mode in
+      let ends = stands-first bs start (twoBytes least ++ twoBytes most) (twoBytes last) stands in (
+        number-standing bs start least (omega (arith, small)) (stands-first bs start (twoBytes least) (twoBytes most) ends),
+        number-standing bs (start + 2) most (small .2) (stands-second bs start (twoBytes least) (twoBytes most) ends),
+        number-standing bs (start + 4) last (omega (arith, mode-small mode)) (stands-second bs start (twoBytes least ++ twoBytes most) (twoBytes last) stands),
+      )
+
   repeat-accepts : (least : ℕ) (upper : Upper) (mode : Mode) (e : Pattern) → Accepts bs e → Accepts bs (repeat least upper mode e)
   repeat-accepts least upper mode e accepts left at stop before fit =
       enters (repeat least upper mode e) left at stop before fit λ here below left≡.
@@ -117,24 +133,8 @@ module _ (bs : List ℕ) where
       let long = length-record tree in
       let size = length-append (repeatBytes least upper mode) (recordOf e) in
       let full : start + repeatHead + length (recordOf e) ≡ bodyEnd bs at = omega (arith, here .size) in
-      let counts = fit .made .0 in
-      let bounds = counts-small least upper counts in
-      let numbers = stands-first bs start (repeatBytes least upper mode) (recordOf e) (here .inside) in
-      let ends = stands-first bs start (twoBytes least ++ twoBytes (upperNumber upper)) (twoBytes (modeNumber mode)) numbers in
-      let leastRead : numberAt bs start ≡ least = number-standing bs start least (omega (arith, bounds)) (stands-first bs start (twoBytes least) (twoBytes (upperNumber upper)) ends) in
-      let mostRead : numberAt bs (start + 2) ≡ upperNumber upper = number-standing bs (start + 2) (upperNumber upper) (bounds .2) (stands-second bs start (twoBytes least) (twoBytes (upperNumber upper)) ends) in
-      let modeRead : numberAt bs (start + 4) ≡ modeNumber mode = number-standing bs (start + 4) (modeNumber mode) (omega (arith, mode-small mode)) (stands-second bs start (twoBytes least ++ twoBytes (upperNumber upper)) (twoBytes (modeNumber mode)) numbers) in
-      let inner = single (walkRecord below bs) bs at (start + repeatHead) before in
-      let behind : ℕ → ℕ → ℕ → Checked Pattern = λ a b c. inner >>= λ m. accepted (repeat a (upperOf b) (modeOf c) m) in
-      let tested : ℕ → ℕ → ℕ → Checked Pattern = λ a b c. holds (repeatNumbersRight a b c) repeatWrong at >> behind a b c in
-      let read : tested (numberAt bs start) (numberAt bs (start + 2)) (numberAt bs (start + 4)) ≡ tested least (upperNumber upper) (modeNumber mode) = λ i. tested (leastRead i) (mostRead i) (modeRead i) in
-      let back : accepted (repeat least (upperOf (upperNumber upper)) (modeOf (modeNumber mode)) e) ≡ accepted tree = λ i. accepted (repeat least (upper-of-number least upper counts i) (mode-of-number mode i) e) in
-      holds-passes brokenRecord at (tested (numberAt bs start) (numberAt bs (start + 2)) (numberAt bs (start + 4))) (le-leb repeatHead (bodyLength bs at) (omega (arith, here .size)))
-      ∙ read
-      ∙ holds-passes repeatWrong at (behind least (upperNumber upper) (modeNumber mode)) (right-numbers least upper mode counts)
-      ∙ ap (λ (c : Checked Pattern). c >>= λ m. accepted (repeat least (upperOf (upperNumber upper)) (modeOf (modeNumber mode)) m))
-      (single-accepts e accepts below at (start + repeatHead) before full
-      (record {
+      let fits : Fitting bs below (start + repeatHead) (bodyEnd bs at) before e =
+      record {
         stands = stands-second bs start (repeatBytes least upper mode) (recordOf e) (here .inside);
         ends = omega arith;
         inside = omega (arith, end, fit .ends, fit .inside);
@@ -142,7 +142,22 @@ module _ (bs : List ℕ) where
         made = fit .made .1;
         low = omega (arith, fit .low);
         few = fit .few;
-      }))
+      } in
+      let counts = fit .made .0 in
+      let most = upperNumber upper in
+      let last = modeNumber mode in
+      let (leastRead, mostRead, modeRead) = numbers-read start least upper mode counts (stands-first bs start (repeatBytes least upper mode) (recordOf e) (here .inside)) in
+      let inner = single (walkRecord below bs) bs at (start + repeatHead) before in
+      let behind : ℕ → ℕ → ℕ → Checked Pattern = λ a b c. inner >>= λ m. accepted (repeat a (upperOf b) (modeOf c) m) in
+      let tested : ℕ → ℕ → ℕ → Checked Pattern = λ a b c. holds (repeatNumbersRight a b c) repeatWrong at >> behind a b c in
+      let found = tested (numberAt bs start) (numberAt bs (start + 2)) (numberAt bs (start + 4)) in
+      let read : found ≡ tested least most last = λ i. tested (leastRead i) (mostRead i) (modeRead i) in
+      let back : accepted (repeat least (upperOf most) (modeOf last) e) ≡ accepted tree =
+      λ i. accepted (repeat least (upper-of-number least upper counts i) (mode-of-number mode i) e) in
+      holds-passes brokenRecord at found (le-leb repeatHead (bodyLength bs at) (omega (arith, here .size)))
+      ∙ read
+      ∙ holds-passes repeatWrong at (behind least most last) (right-numbers least upper mode counts)
+      ∙ ap (λ (c : Checked Pattern). c >>= λ m. accepted (repeat least (upperOf most) (modeOf last) m)) (single-accepts e accepts below at (start + repeatHead) before full fits)
       ∙ back
 
   holder-accepts : (tree : Members → Pattern) → Holder tree → (ms : Members) → AcceptsAll bs ms → Accepts bs (tree ms)
