@@ -33,7 +33,7 @@ bodyEnd bs at = bodyStart at + bodyLength bs at
 abbrev pub part : List ℕ → ℕ → ℕ → List ℕ
 part bs start end = take (end - start) (drop start bs)
 
--- Refusals, table, 3: the kind that has this number
+-- Refusals 1, table, 3: the kind that has this number
 abbrev pub kindAmong : List Kind → ℕ → ℕ → Checked Kind
 kindAmong [] number at = refused unknownKind at
 kindAmong (k ∷ ks) number at = cond (eqb number (kindNumber k)) (accepted k) (kindAmong ks number at)
@@ -83,7 +83,7 @@ modeOf mode = cond (eqb mode (modeNumber greedy)) greedy lazy
 abbrev pub repeatHead : ℕ
 repeatHead = 6
 
--- Refusals 1 and 2: a way to walk one record: from its offset, up to the end of its holder, with so many groups before it
+-- Refusals 2: a way to walk one record: from its offset, up to the end of its holder, with so many groups before it
 abbrev pub Walk : Type 0
 Walk = ℕ → ℕ → ℕ → Checked Pattern
 

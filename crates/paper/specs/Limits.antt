@@ -1,4 +1,4 @@
--- The limits, each named once. "Patterns 4" below means 01, section "Pattern records", paragraph 4, and so on for the other sections.
+-- The limits, each named once. "Patterns 4" below means 01, section "Pattern records", paragraph 4 (a table or a list counts as one), and so on for the other sections; docs/MAP.md tells them all.
 use Prim.Native.Nat.{ℕ, _+_, _*_}
 
 -- Patterns 4: the longest pattern, in bytes
@@ -49,6 +49,6 @@ tableNumbers = 2 * rowCount
 abbrev pub absent : ℕ
 absent = 65535
 
--- Refusals, table, 14: the greatest step count that can be told
+-- Refusals 1, table, 14: the greatest step count that can be told
 abbrev pub stepLimit : ℕ
 stepLimit = 4294967295

@@ -4,7 +4,6 @@ use Prim.Native.Nat.{ℕ, suc, _+_, _-_, _*_, max}
 use mathlib.Core.Bool.{Bool, true, false, cond}
 use mathlib.Core.List.{List}
 use lib.Dec.{ltb}
-use Rattle.paper.specs.Limits
 
 -- Patterns 3: mode 0 and mode 1
 pub data Mode : Type 0 where

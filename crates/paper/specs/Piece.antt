@@ -25,7 +25,7 @@ pub record Span : Type 0 where
 abbrev pub isAbsent : ℕ → ℕ → Bool
 isAbsent start end = eqb start absent && eqb end absent
 
--- Replace 3 and Refusals, table, 15: a row's part of the line; an absent one is the empty part at the line's start
+-- Replace 3 and Refusals 1, table, 15: a row's part of the line; an absent one is the empty part at the line's start
 abbrev pub rowSpan : ℕ → ℕ → ℕ → Checked Span
 rowSpan size start end =
     cond (isAbsent start end)
@@ -37,7 +37,7 @@ abbrev pub spanOf : Piece → ℕ → Rows → Checked Span
 spanOf (literal at start end) size table = accepted (record { source = fromTemplate; start = start; end = end })
 spanOf (reference at row) size table = rowSpan size (rowStart row table) (rowEnd row table)
 
--- Replace 3 and Refusals, table, 16: pieces are counted from 0
+-- Replace 3 and Refusals 1, table, 16: pieces are counted from 0
 abbrev pub spanAt : List Piece → ℕ → ℕ → Rows → Checked Span
 spanAt [] n size table = refused noSuchPiece 0
 spanAt (piece ∷ rest) zero size table = spanOf piece size table

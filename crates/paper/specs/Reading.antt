@@ -63,16 +63,16 @@ spanning k start p rows = here p (setRow k start p rows)
 abbrev pub grouped : ℕ → Reading → Reading
 grouped k inside p rows = bind (inside p rows) (spanning k p)
 
--- Reading 2, repeat, third sentence: a pass first makes every group inside absent
+-- Reading 2, repeat, second sentence: a pass first makes every group inside absent
 abbrev pub passOf : ℕ → ℕ → Reading → Reading
 passOf first n inside p rows = inside p (clear first n rows)
 
--- Reading 2, repeat, second and fourth sentences: passes that must be made, which may consume nothing, and then what comes next
+-- Reading 2, repeat, first and third sentences: passes that must be made, which may consume nothing, and then what comes next
 abbrev pub mustPasses : ℕ → Reading → Reading → Reading
 mustPasses zero pass next = next
 mustPasses (suc n) pass next = inTurn pass (mustPasses n pass next)
 
--- Reading 2, repeat, fifth sentence: an outcome that ends where its pass began is dropped
+-- Reading 2, repeat, fourth sentence: an outcome that ends where its pass began is dropped
 abbrev pub unlessAt : ℕ → Reading
 unlessAt start p rows = cond (eqb p start) [] (here p rows)
 

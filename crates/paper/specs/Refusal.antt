@@ -2,7 +2,7 @@
 use Prim.Native.Nat.{ℕ}
 use mathlib.Core.Bool.{Bool, true, false}
 
--- Refusals, table: the sixteen numbers by name, in the table's order
+-- Refusals 1, table: the sixteen numbers by name, in the table's order
 abbrev pub patternTooLong : ℕ
 patternTooLong = 1
 
@@ -51,14 +51,14 @@ rowWrong = 15
 abbrev pub noSuchPiece : ℕ
 noSuchPiece = 16
 
--- Refusals 1: an answer is a refusal's number and place (an offset), or what was asked for
+-- Refusals 2: an answer is a refusal's number and place (an offset), or what was asked for
 pub data Checked (A : Type 0) : Type 0 where
   refused : ℕ → ℕ → Checked A
   accepted : A → Checked A
 
 infixl 20 _>>=_
 infixl 20 _>>_
--- Refusals 1: the first fault counts, so what comes later is looked at only where nothing was refused before
+-- Refusals 2: the first fault counts, so what comes later is looked at only where nothing was refused before
 abbrev pub _>>=_ : {A B : Type 0} → Checked A → (A → Checked B) → Checked B
 refused number place >>= next = refused number place
 accepted a >>= next = next a
@@ -67,7 +67,7 @@ abbrev pub _>>_ : {A B : Type 0} → Checked A → Checked B → Checked B
 refused number place >> next = refused number place
 accepted a >> next = next
 
--- Refusals 1: the refusal `number` at `place`, unless the test holds
+-- Refusals 2: the refusal `number` at `place`, unless the test holds
 abbrev pub holds : Bool → ℕ → ℕ → Checked (Unit {0})
 holds true number place = accepted tt
 holds false number place = refused number place

@@ -27,7 +27,7 @@ setEnd k p rows = set rows (2 * k + 1) p
 abbrev pub setRow : ℕ → ℕ → ℕ → Rows → Rows
 setRow k start end rows = setEnd k end (setStart k start rows)
 
--- Reading 2, repeat, third sentence: as many rows from the first on made absent
+-- Reading 2, repeat, second sentence: as many rows from the first on made absent
 abbrev pub clear : ℕ → ℕ → Rows → Rows
 clear first zero rows = rows
 clear first (suc n) rows = clear (suc first) n (setRow first absent absent rows)

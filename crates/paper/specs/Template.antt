@@ -34,7 +34,7 @@ abbrev pub pieceOfKind : List ℕ → ℕ → ℕ → Checked Piece
 pieceOfKind bs at kind =
     cond (eqb kind literalKind) (literalAt bs at) (cond (eqb kind referenceKind) (referenceAt bs at) (refused templateWrong at))
 
--- Refusals, table, 9: a record that is cut, of another kind, or with a wrong body is refused at its place
+-- Refusals 1, table, 9: a record that is cut, of another kind, or with a wrong body is refused at its place
 abbrev pub pieceAt : List ℕ → ℕ → Checked Piece
 pieceAt bs at = holds (leb (bodyEnd bs at) (length bs)) templateWrong at >> pieceOfKind bs at (kindAt bs at)
 
@@ -48,11 +48,11 @@ piecesFrom (suc turns) bs at =
     accepted (piece ∷ rest))
     (accepted [])
 
--- Refusals, table, 9: too long is tested first, and refused at 0
+-- Refusals 1, table, 9: too long is tested first, and refused at 0
 abbrev pub templateOf : List ℕ → Checked (List Piece)
 templateOf bs = holds (leb (length bs) templateBytes) templateWrong 0 >> piecesFrom (length bs) bs 0
 
--- Refusals, table, 10: the first reference above the pattern's group count
+-- Refusals 1, table, 10: the first reference above the pattern's group count
 abbrev pub within : List Piece → ℕ → Checked (Unit {0})
 within [] groups = accepted tt
 within (literal at start end ∷ rest) groups = within rest groups
