@@ -24,6 +24,8 @@ pub mod RowLaws
 pub mod RowsKept
 pub mod AnswerRows
 pub mod Ecma
+pub mod EcmaReading
+pub mod Moved
 -- The list machine: its places, its visits, and that it gives the reading's answer within the bound
 pub mod Once
 pub mod First
@@ -32,10 +34,8 @@ pub mod Tree
 pub mod Grown
 pub mod Sizes
 pub mod Unfold
-pub mod EcmaReading
 pub mod Unseen
 pub mod Visit
-pub mod Moved
 pub mod MovedMachine
 pub mod ScanTurns
 pub mod ReplaceBound
