@@ -39,3 +39,6 @@ pub mod Visit
 pub mod MovedMachine
 pub mod ScanTurns
 pub mod ReplaceBound
+pub mod Run
+pub mod MachineReads
+pub mod Bound

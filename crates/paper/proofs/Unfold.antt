@@ -161,16 +161,16 @@ module _ (code : List Place) (line : List ℕ) (deepest : ℕ) where
   -- The places of a pattern unfold to its tree
 
   -- where a pattern followed by the place `next` is left, that place unfolds to what follows
-  abbrev Goes : ℕ → ℕ → ℕ → Rest → Type 0
+  abbrev pub Goes : ℕ → ℕ → ℕ → Rest → Type 0
   Goes p level next rest = (q m : ℕ) → After (length line) p level q m → Unfolds (rest q m) q next m
 
-  stand : {move : Rows → Move} (p level place : ℕ) (x : Place) → place < length code → getD code place stop ≡ x → level ≤ deepest
+  pub stand : {move : Rows → Move} (p level place : ℕ) (x : Place) → place < length code → getD code place stop ≡ x → level ≤ deepest
       → ((rows : Rows) → moveAt x line p level rows ≡ move rows) → Stands p place level move
   stand p level place x inside here low move =
       record { inside = inside; low = low; moves = λ rows. ap (λ (y : Place). moveAt y line p level rows) here ∙ move rows }
 
   -- a level never rises from entry to exit
-  after-level : {n p level q m : ℕ} → After n p level q m → m ≤ level
+  pub after-level : {n p level q m : ℕ} → After n p level q m → m ≤ level
   after-level stay = omega arith
   after-level (on h bound) = omega arith
 
