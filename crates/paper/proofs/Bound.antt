@@ -1,13 +1,13 @@
 -- The bound on the machine's steps, because at each position each pair of a place and a level is one step at most; and its numbers of positions and turns are no limits.
-use Prim.Native.Nat.{ℕ, suc, _+_, _*_, max, _<_, _≤_}
+use Prim.Native.Nat.{ℕ, suc, _+_, _*_, max, _≤_}
 use native.Mathlib.Omega.{arith}
 use native.Mathlib.Nat.{mul-comm, mul-le-mul, le-trans}
-use mathlib.Core.Path.{_≡_, refl, sym, ap, ap₂, subst, _∙_}
+use mathlib.Core.Path.{_≡_, refl, ap₂, subst, _∙_}
 use mathlib.Core.List.{List, [], _∷_}
 use lib.Dec.{lit≤}
 use lib.ListN.{length}
 use Rattle.paper.specs.Limits.{patternPlaces, patternLevels, lineBytes, stepLimit}
-use Rattle.paper.specs.Pattern.{Pattern, allPlaces, depth, levels}
+use Rattle.paper.specs.Pattern.{Pattern, allPlaces, depth}
 use Rattle.paper.specs.Layout.{Lawful}
 use Rattle.paper.specs.Rows.{noRows}
 use Rattle.paper.specs.Machine.{placesOf, at, run, pairs, machine, stepsOf}

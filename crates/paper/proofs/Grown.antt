@@ -5,10 +5,10 @@ use native.Mathlib.Omega.{arith}
 use native.Mathlib.Nat.{ne-of-gt}
 use mathlib.Core.Path.{_≡_, refl, sym, ap, _∙_}
 use mathlib.Core.Bool.{Bool, true, false, cond, _&&_}
-use mathlib.Core.List.{List, [], _∷_, _++_}
-use mathlib.Core.Option.{Option, none, some}
-use lib.Dec.{eqb, ltb, eqb·suc-zero}
-use lib.ListN.{length, getD, set}
+use mathlib.Core.List.{List, []}
+use mathlib.Core.Option.{Option, none}
+use lib.Dec.{ltb, eqb·suc-zero}
+use lib.ListN.{length, getD}
 use borrow.Author.Tests.{ltb-true, eq-eqb, ne-eqb}
 use Rattle.paper.specs.Pattern.{Mode, greedy, lazy, Upper, upTo, noEnd, Range, Pattern, Members, groups}
 use Rattle.paper.specs.Pattern.Pattern.{nothing, empty, bytes, group, sequence, alternation, repeat}
@@ -19,7 +19,6 @@ use Rattle.paper.specs.Reading.{
   Reading,
   nowhere,
   here,
-  bind,
   inTurn,
   orElse,
   inSet,
@@ -38,27 +37,10 @@ use Rattle.paper.specs.Reading.{
   readSequence,
   readAlternation,
 }
-use Rattle.paper.specs.Machine.{
-  Core,
-  dead,
-  skip,
-  eats,
-  captures,
-  chain,
-  either,
-  must,
-  maybe,
-  star,
-  musts,
-  maybes,
-  optionals,
-  writtenOut,
-  chained,
-  forked,
-}
+use Rattle.paper.specs.Machine.{Core, dead, skip, eats, star, musts, maybes, optionals, writtenOut, chained, forked}
 use Rattle.paper.proofs.First.{Trial, before, before-none, firstOf, first-append, first-bind, first-never}
 use Rattle.paper.proofs.Untouched.{Untouched, first-written, read-untouched}
-use Rattle.paper.proofs.Tree.{Tree, noWay, done, byte, choice, act, best, Rest, ways, atEnd, loops, grow, After, stay, on, after-after}
+use Rattle.paper.proofs.Tree.{Tree, noWay, byte, choice, act, best, Rest, ways, atEnd, loops, grow, After, stay, on, after-after}
 
 -- a set takes only a byte of the line
 pub takes-inside : (ranges : List Range) (line : List ℕ) (p : ℕ) → takes ranges line p ≡ true → p < length line

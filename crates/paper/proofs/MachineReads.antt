@@ -1,26 +1,25 @@
 -- The central theorem: the list machine finds what the ordered reading says, for every pattern and line. The places of a pattern unfold to its tree,
 -- the machine searches that tree, and the tree's first end is the first outcome of the reading that ends at the line's end.
-use Prim.Native.Nat.{ℕ, zero, suc, _+_, _*_, _<_, _≤_}
+use Prim.Native.Nat.{ℕ, suc, _+_, _*_, _≤_}
 use native.Mathlib.Omega.{arith}
 use mathlib.Core.Path.{_≡_, refl, sym, ap, subst, _∙_}
 use mathlib.Core.Logic.{_↔_, _≢_, _⊎_, inl, inr}
 use mathlib.Core.Bool.{Bool, true, false, cond}
-use mathlib.Core.List.{List, [], _∷_, _++_, List·Memᴰ, List·Memᴰ·head, List·Memᴰ·tail, List·Memᴰ·not-nil, List·Memᴰ·cases-cons}
-use mathlib.Core.Option.{Option, none, some, Option·some-ne-none}
+use mathlib.Core.List.{List, [], _∷_, List·Memᴰ, List·Memᴰ·head, List·Memᴰ·tail, List·Memᴰ·not-nil, List·Memᴰ·cases-cons}
+use mathlib.Core.Option.{none, some, Option·some-ne-none}
 use lib.Dec.{eqb}
-use lib.ListN.{length, getD}
-use borrow.Author.Tests.{eqb-true, eqb-false, eq-eqb}
-use Rattle.paper.specs.Pattern.{Pattern, allPlaces, depth}
+use lib.ListN.{length}
+use borrow.Author.Tests.{eqb-true, eqb-false}
+use Rattle.paper.specs.Pattern.{Pattern, depth}
 use Rattle.paper.specs.Rows.{Rows, noRows}
 use Rattle.paper.specs.Reading.{Outcome, read}
 use Rattle.paper.specs.Machine.{Place, accept, Core, size, entry, writtenOut, lay, placesOf, at, win, die, run, pairs, machine, rowsOf}
 use Rattle.paper.specs.Match.{firstAt, extract, withRow0, wholeMatch, wrap, search}
-use Rattle.paper.proofs.First.{before, before-none, firstOf, endsAt, first-end}
-use Rattle.paper.proofs.Tree.{Tree, noWay, done, best, Rest, grow, After}
+use Rattle.paper.proofs.First.{before-none, endsAt, first-end}
+use Rattle.paper.proofs.Tree.{Tree, noWay, done, best, Rest, grow}
 use Rattle.paper.proofs.Grown.{reads}
 use Rattle.paper.proofs.Sizes.{length-lay, length-places, nesting-written}
 use Rattle.paper.proofs.Unfold.{Holds, holds-both, holds-behind, Goes, stand, after-level, unfolds, Unfolds, dies, accepts}
-use Rattle.paper.proofs.Visit.{Gives}
 use Rattle.paper.proofs.Run.{Ran, allPairs, ran}
 
 -- what follows a whole pattern: accepting, at the line's end

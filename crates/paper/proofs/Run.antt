@@ -1,13 +1,13 @@
 -- The machine over the positions of a line: what a list of threads gives, in at most all pairs a position, whatever larger numbers of positions and turns it is allowed.
 use Prim.Native.Nat.{ℕ, zero, suc, _+_, _*_, _<_, _≤_}
 use native.Mathlib.Omega.{arith}
-use native.Mathlib.Nat.{suc-mul, zero-mul}
+use native.Mathlib.Nat.{suc-mul}
 use mathlib.Core.Path.{_≡_, refl, sym, ap, subst, _∙_}
 use mathlib.Core.List.{List, [], _∷_, nil≢cons}
 use mathlib.Core.Option.{Option, none, some}
 use lib.ListN.{length}
 use Rattle.paper.specs.Rows.{Rows}
-use Rattle.paper.specs.Machine.{Place, Thread, State, fresh, visits, Stopped, matched, unmatched, settle, run, stepsOf, rowsOf}
+use Rattle.paper.specs.Machine.{Place, Thread, State, fresh, visits, Stopped, settle, run, stepsOf, rowsOf}
 use Rattle.paper.proofs.First.{before}
 use Rattle.paper.proofs.Unseen.{unseen-all}
 use Rattle.paper.proofs.Visit.{Gives, Good, Leads, noneUnderway, left, visited-all}

@@ -1,21 +1,18 @@
 -- How many places a pattern is laid out to, and how deep its optional passes stand inside one another: the numbers that the table of records gives.
 use Prim.Native.Nat.{ℕ, zero, suc, _+_, _-_, _*_, max, _<_, _≤_}
 use native.Mathlib.Omega.{arith}
-use native.Mathlib.Nat.{suc-mul, zero-mul, add-zero, zero-add, suc-add}
+use native.Mathlib.Nat.{suc-mul, zero-mul}
 use mathlib.Core.Path.{_≡_, refl, sym, ap, ap₂, subst, _∙_}
 use mathlib.Core.Bool.{Bool, true, false, cond}
-use mathlib.Core.List.{List, [], _∷_, _++_}
-use lib.Dec.{eqb, ltb, eqb·suc-zero}
+use mathlib.Core.List.{[], _∷_}
+use lib.Dec.{ltb}
 use lib.ListN.{length, length-append}
 use borrow.Author.Tests.{ltb-false}
 use Rattle.paper.specs.Pattern.{
   Mode,
-  greedy,
-  lazy,
   Upper,
   upTo,
   noEnd,
-  Range,
   Pattern,
   Members,
   count,
@@ -49,7 +46,6 @@ use Rattle.paper.specs.Machine.{
   writtenOut,
   chained,
   forked,
-  Place,
   closing,
   size,
   entry,

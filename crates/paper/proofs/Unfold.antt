@@ -1,6 +1,6 @@
 -- The places of a pattern unfold to its tree: from the entry, on a level, at a position, the moves of the places are the nodes of the tree, one for one.
 -- A place, level and position unfold to one tree only, since the move there is one only.
-use Prim.Native.Nat.{ℕ, zero, suc, _+_, _-_, max, _<_, _≤_}
+use Prim.Native.Nat.{ℕ, zero, suc, _+_, _<_, _≤_}
 use native.Mathlib.Omega.{arith}
 use native.Mathlib.Nat.{add-zero, zero-add, suc-add}
 use mathlib.Core.Path.{_≡_, refl, sym, ap, ap₂, subst, _∙_, fun-ext}
@@ -9,9 +9,8 @@ use mathlib.Core.List.{List, [], _∷_, _++_}
 use lib.Dec.{eqb, eqb·suc-zero}
 use lib.ListN.{length, getD, length-append}
 use lib.Seq.{getD-append-seam, append-snoc}
-use borrow.Author.Tests.{eqb-true}
-use Rattle.paper.specs.Pattern.{Mode, greedy, lazy, Range}
-use Rattle.paper.specs.Rows.{Rows, noRows, setStart, setEnd, clear}
+use Rattle.paper.specs.Pattern.{Mode, greedy, lazy}
+use Rattle.paper.specs.Rows.{Rows, noRows, setEnd, clear}
 use Rattle.paper.specs.Reading.{takes}
 use Rattle.paper.specs.Machine.{
   Core,
@@ -33,7 +32,6 @@ use Rattle.paper.specs.Machine.{
   begin,
   beginOptional,
   ending,
-  accept,
   size,
   entry,
   passFork,

@@ -1,28 +1,25 @@
 -- A reading does not look at the rows and writes only those of its own groups, so writing any other number before or after it is the same.
-use Prim.Native.Nat.{ℕ, zero, suc, _+_, _*_, _<_, _≤_}
+use Prim.Native.Nat.{ℕ, zero, suc, _+_, _*_, _<_}
 use native.Mathlib.Omega.{arith}
 use mathlib.Core.Path.{_≡_, refl, sym, ap, _∙_}
 use mathlib.Core.Bool.{Bool, true, false, cond}
 use mathlib.Core.List.{List, [], _∷_, _++_}
-use mathlib.Core.Option.{Option}
 use lib.Dec.{eqb}
 use lib.ListN.{set}
 use lib.Seq.{set-comm}
 use Rattle.paper.specs.Limits.{absent}
-use Rattle.paper.specs.Pattern.{Mode, greedy, lazy, Upper, Range, Pattern, Members, groups}
+use Rattle.paper.specs.Pattern.{Mode, greedy, lazy, Pattern, Members, groups}
 use Rattle.paper.specs.Pattern.Pattern.{nothing, empty, bytes, group, sequence, alternation, repeat}
 use Rattle.paper.specs.Pattern.Members.{two, more}
 use Rattle.paper.specs.Rows.{Rows, setRow, clear}
 use Rattle.paper.specs.Reading.{
   Outcome,
   Reading,
-  nowhere,
   here,
   bind,
   inTurn,
   orElse,
   takes,
-  oneByte,
   spanning,
   grouped,
   passOf,

@@ -1,11 +1,11 @@
 -- One position of the machine is a search of the trees of its threads, in order, that skips a pair seen before. Nothing is lost by that: a pair seen before
 -- either was followed wholly, and then what its tree can win something carried before wins, or is still under way, and then its tree would be inside itself.
-use Prim.Native.Nat.{ℕ, zero, suc, _+_, _*_, _<_, _≤_}
+use Prim.Native.Nat.{ℕ, zero, suc, _+_, _<_, _≤_}
 use native.Mathlib.Omega.{arith}
 use native.Mathlib.Nat.{le-of-eq}
 use mathlib.Core.Path.{_≡_, refl, sym, ap, subst, _∙_}
 use mathlib.Core.Logic.{_⊎_, inl, inr}
-use mathlib.Core.Bool.{Bool, true, false, cond, _&&_, _||_}
+use mathlib.Core.Bool.{Bool, true, false, _&&_, _||_}
 use mathlib.Core.List.{List, [], _∷_, _++_}
 use mathlib.Core.Option.{Option, none, some}
 use lib.Dec.{eqb}
@@ -18,15 +18,9 @@ use Rattle.paper.specs.Machine.{
   Thread,
   at,
   Move,
-  die,
-  win,
-  eat,
-  split,
-  goOn,
   moveAt,
   Pair,
   State,
-  fresh,
   isSeen,
   isWon,
   blocked,
@@ -39,7 +33,7 @@ use Rattle.paper.specs.Machine.{
   visits,
 }
 use Rattle.paper.proofs.First.{before, before-none, before-assoc}
-use Rattle.paper.proofs.Tree.{Tree, noWay, done, byte, choice, act, best, wins, wins-best, won-before, height}
+use Rattle.paper.proofs.Tree.{Tree, noWay, choice, act, best, wins, wins-best, height}
 use Rattle.paper.proofs.Unfold.{Stands, Unfolds, dies, accepts, carries, splits, goesOn, unfolds-once}
 use Rattle.paper.proofs.Unseen.{unseen, unseen-mark}
 
