@@ -42,15 +42,15 @@ unlessFailure-assoc : (a b c : MatchResult) → unlessFailure (unlessFailure a b
 unlessFailure-assoc none b c = refl
 unlessFailure-assoc (some a) b c = refl
 
-success-here : (c : Continuation) (x : MatchState) → c x ≡ firstSuccess c (x ∷ [])
+pub success-here : (c : Continuation) (x : MatchState) → c x ≡ firstSuccess c (x ∷ [])
 success-here c x = sym (unlessFailure-none (c x))
 
-success-append : (c : Continuation) (os us : List Outcome) → firstSuccess c (os ++ us) ≡ unlessFailure (firstSuccess c os) (firstSuccess c us)
+pub success-append : (c : Continuation) (os us : List Outcome) → firstSuccess c (os ++ us) ≡ unlessFailure (firstSuccess c os) (firstSuccess c us)
 success-append c [] us = refl
 success-append c (o ∷ os) us =
     ap (unlessFailure (c o)) (success-append c os us) ∙ sym (unlessFailure-assoc (c o) (firstSuccess c os) (firstSuccess c us))
 
-success-bind : (c : Continuation) (os : List Outcome) (next : Reading)
+pub success-bind : (c : Continuation) (os : List Outcome) (next : Reading)
     → firstSuccess c (bind os next) ≡ firstSuccess (λ o. firstSuccess c (next (o .end) (o .rows))) os
 success-bind c [] next = refl
 success-bind c (o ∷ os) next =
@@ -58,7 +58,7 @@ success-bind c (o ∷ os) next =
     ap (unlessFailure (firstSuccess c (next (o .end) (o .rows)))) (success-bind c os next)
 
 -- continuations that agree on every outcome have the same first success
-success-agree : (P : Property) (c d : Continuation) (os : List Outcome) → Every P os → ((o : MatchState) → P (o .end) (o .rows) → c o ≡ d o)
+pub success-agree : (P : Property) (c d : Continuation) (os : List Outcome) → Every P os → ((o : MatchState) → P (o .end) (o .rows) → c o ≡ d o)
     → firstSuccess c os ≡ firstSuccess d os
 success-agree P c d [] h g = refl
 success-agree P c d (o ∷ os) h g = ap₂ unlessFailure (g o (h .0)) (success-agree P c d os (h .1) g)
@@ -284,7 +284,7 @@ abbrev pub capturesOf : MatchResult → Option Rows
 capturesOf none = none
 capturesOf (some y) = some (y .rows)
 
-first-at-end : (n : ℕ) (os : List Outcome) → firstAt n os ≡ capturesOf (firstSuccess (endsAt n) os)
+pub first-at-end : (n : ℕ) (os : List Outcome) → firstAt n os ≡ capturesOf (firstSuccess (endsAt n) os)
 first-at-end n [] = refl
 first-at-end n (o ∷ os) = look (eqb (o .end) n) (first-at-end n os)
   where

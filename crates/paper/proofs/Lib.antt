@@ -42,3 +42,4 @@ pub mod ReplaceBound
 pub mod Run
 pub mod MachineReads
 pub mod Bound
+pub mod EcmaSearch
