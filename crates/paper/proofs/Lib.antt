@@ -43,3 +43,4 @@ pub mod Run
 pub mod MachineReads
 pub mod Bound
 pub mod EcmaSearch
+pub mod ReadTurns
