@@ -108,7 +108,7 @@ fn inside_start(kind: usize, start: usize, end: usize) -> usize
 fn repeat_places(least: usize, most: usize, places: usize) -> usize
     requires { ⌜ CountsRight least most ⌝ }
     requires { ⌜ places ≤ 501 ⌝ }
-    ensures { λ r. ⌜ r ≡ repeatPlaces least (upperOf most) places ⌝ }
+    ensures { λ r. ⌜ (r ≡ repeatPlaces least (upperOf most) places) × (r ≤ 300000) ⌝ }
 {
     if most == NO_END {
         least * (1 + places) + (3 + places)
@@ -120,7 +120,7 @@ fn repeat_places(least: usize, most: usize, places: usize) -> usize
 // The places of a record by its kind and what the records inside it add up to.
 fn own_places(pattern: &[u8], kind: usize, start: usize, places: usize, records: usize) -> usize
     requires { ⌜ OwnPlaces (now pattern) kind start places records ⌝ }
-    ensures { λ r. ⌜ r ≡ ownPlaces (now (pattern .entry)) kind start places records ⌝ }
+    ensures { λ r. ⌜ (r ≡ ownPlaces (now (pattern .entry)) kind start places records) × (r ≤ 300000) ⌝ }
 {
     if kind < GROUP {
         return if kind == EMPTY { 0 } else { 1 };
@@ -144,7 +144,33 @@ fn own_places(pattern: &[u8], kind: usize, start: usize, places: usize, records:
 // The groups of a record by its kind and those inside it.
 fn own_groups(kind: usize, groups: usize) -> usize
     requires { ⌜ groups ≤ 9 ⌝ }
-    ensures { λ r. ⌜ r ≡ ownGroups kind groups ⌝ }
+    ensures { λ r. ⌜ (r ≡ ownGroups kind groups) × (r ≤ 10) ⌝ }
 {
     if kind == GROUP { groups + 1 } else { groups }
+}
+
+// What the records from an offset up to the end of their holder add up to.
+pub fn count(pattern: &[u8], at: usize, stop: usize) -> Sums
+    requires { ⌜ Counting (now pattern) at stop ⌝ }
+    ensures { λ r. ⌜ Counted (now (pattern .entry)) at stop (r .places) (r .groups) (r .records) ⌝ }
+{
+    let mut from = at;
+    let mut places = 0;
+    let mut groups = 0;
+    let mut records = 0;
+    while from < stop {
+        let kind = number_at(pattern, from + 2);
+        let start = from + 4;
+        let end = start + number_at(pattern, from);
+        let inside = count(pattern, inside_start(kind, start, end), end);
+        places = capped(places + own_places(pattern, kind, start, inside.places, inside.records));
+        groups += own_groups(kind, inside.groups);
+        records += 1;
+        from = end;
+    }
+    Sums {
+        places,
+        groups,
+        records,
+    }
 }

@@ -9,13 +9,13 @@ returns : tie.Need-returns
 returns c =
     let the-if1 = c .before .if1 in
     let the-if2 = c .if2 in
-    simp (lt-ltb _ _ (the-if1 .taken), eq-eqb _ _ (the-if2 .taken))
+    (simp (lt-ltb _ _ (the-if1 .taken), eq-eqb _ _ (the-if2 .taken)), omega arith)
 
 returns-2 : tie.Need-returns-2
 returns-2 c =
     let the-if1 = c .before .if1 in
     let the-if2 = c .if2 in
-    simp (lt-ltb _ _ (the-if1 .taken), ne-eqb _ _ (the-if2 .left))
+    (simp (lt-ltb _ _ (the-if1 .taken), ne-eqb _ _ (the-if2 .left)), omega arith)
 
 add-result : tie.Need-add-result
 add-result c = search needs
@@ -24,14 +24,14 @@ returns-3 : tie.Need-returns-3
 returns-3 c =
     let the-if1 = c .before .if1 in
     let the-if3 = c .if3 in
-    simp (le-ltb _ _ (the-if1 .left), eq-eqb _ _ (the-if3 .taken))
+    (simp (le-ltb _ _ (the-if1 .left), eq-eqb _ _ (the-if3 .taken)), omega arith)
 
 returns-4 : tie.Need-returns-4
 returns-4 c =
     let the-if1 = c .before .before .if1 in
     let the-if3 = c .before .if3 in
     let the-if4 = c .if4 in
-    simp (le-ltb _ _ (the-if1 .left), ne-eqb _ _ (the-if3 .left), eq-eqb _ _ (the-if4 .taken))
+    (simp (le-ltb _ _ (the-if1 .left), ne-eqb _ _ (the-if3 .left), eq-eqb _ _ (the-if4 .taken)), omega arith)
 
 sub-result : tie.Need-sub-result
 sub-result c =
@@ -48,7 +48,7 @@ returns-5 c =
     let the-if3 = c .before .before .if3 in
     let the-if4 = c .before .if4 in
     let the-if5 = c .if5 in
-    simp (le-ltb _ _ (the-if1 .left), ne-eqb _ _ (the-if3 .left), ne-eqb _ _ (the-if4 .left), eq-eqb _ _ (the-if5 .taken))
+    (simp (le-ltb _ _ (the-if1 .left), ne-eqb _ _ (the-if3 .left), ne-eqb _ _ (the-if4 .left), eq-eqb _ _ (the-if5 .taken)), omega arith)
 
 number-at-requires : tie.Need-number-at-requires
 number-at-requires c κs =
@@ -80,8 +80,11 @@ returns-6 c =
     let the-if5 = c .before .before .before .if5 in
     let the-number-at = c .before .before .number-at in
     let the-number-at2 = c .before .number-at2 in
-    let the-repeat-places = c .repeat-places in
-    simp (le-ltb _ _ (the-if1 .left), ne-eqb _ _ (the-if3 .left), ne-eqb _ _ (the-if4 .left), ne-eqb _ _ (the-if5 .left)) (rw (the-number-at .ensures .0, the-number-at2 .ensures .0) at (the-repeat-places .ensures))
+    let the-repeat-places = c .repeat-places in (
+      simp (le-ltb _ _ (the-if1 .left), ne-eqb _ _ (the-if3 .left), ne-eqb _ _ (the-if4 .left), ne-eqb _ _ (the-if5 .left))
+          (rw (the-number-at .ensures .0, the-number-at2 .ensures .0) at (the-repeat-places .ensures .0)),
+      the-repeat-places .ensures .1,
+    )
 
 pub own-places-spec : {M : Type 1} → statement M
 own-places-spec =

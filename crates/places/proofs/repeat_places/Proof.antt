@@ -60,12 +60,25 @@ add-result-6 c =
 returns : tie.Need-returns
 returns c =
     let the-if1 = c .if1 in
-    simp (eq-eqb _ _ (the-if1 .taken))
+    let the-args = c .before .args in
+    let the-pre = c .before .pre in (
+      simp (eq-eqb _ _ (the-if1 .taken)),
+      omega (arith, product-small (the-args .least) (1 + the-args .places) (the-pre .0 .small) (omega arith)),
+    )
 
 returns-2 : tie.Need-returns-2
 returns-2 c =
     let the-if1 = c .if1 in
-    simp (ne-eqb _ _ (the-if1 .left))
+    let the-args = c .before .args in
+    let the-pre = c .before .pre in
+    let w = the-pre .0 .right (the-if1 .left) in (
+      simp (ne-eqb _ _ (the-if1 .left)),
+      omega (
+        arith,
+        product-small (the-args .least) (1 + the-args .places) (the-pre .0 .small) (omega arith),
+        product-small (the-args .most - the-args .least) (3 + the-args .places) (omega arith) (omega arith),
+      ),
+    )
 
 pub repeat-places-spec : {M : Type 1} → statement M
 repeat-places-spec =

@@ -1,0 +1,188 @@
+-- `count` adds up records in a row, and calls itself on what stands inside each: the bytes between its two offsets fall.
+use borrow.Author.Needs.{needs}
+use Prim.Native.Nat.{ℕ, _+_, _-_, _<_}
+use native.Mathlib.Omega.{arith}
+use Rattle.places.proofs.Adding.{Adding, adding-none, adding-turn, adding-all, first, inside-after, read-inside, read-own, read-groups}
+use borrow.Fn.Kinds.{In}
+use borrow.Fn.PlainCycle.{Measures, is, falls, and}
+use Rattle.places.proofs.count.Reads as count
+use Rattle.places.proofs.count.Kinds as count-kinds
+use Rattle.places.proofs.+count.Lts-count as count-lts
+use Rattle.places.proofs.capped.Reads as capped-reads
+use Rattle.places.proofs.inside_start.Reads as inside-start-reads
+use Rattle.places.proofs.own_groups.Reads as own-groups-reads
+use Rattle.places.proofs.own_places.Reads as own-places-reads
+use Rattle.records.proofs.number_at.Reads as number-at-reads
+use Rattle.places.proofs.+count.{statement}
+use Rattle.places.proofs.+count.Tie.{close}
+
+abbrev μ-count : Measures 1 count-kinds.ps ℕ
+μ-count κs a = a .1 .1 .0 - a .1 .0
+
+abbrev count-at : ℕ → In 1 count-kinds.ps
+count-at t = and 1 count-kinds.ps (is 1 count-kinds.ps μ-count t) count.Pre
+
+abbrev count-below : ℕ → In 1 count-kinds.ps
+count-below t = and 1 count-kinds.ps (falls 1 count-kinds.ps _<_ μ-count t) count.Pre
+
+abbrev count-Inv-loop : count-lts.InvT-loop
+count-Inv-loop pattern at stop from₀ places₀ groups₀ records₀ from places groups records = Adding pattern at stop from places groups records
+
+abbrev count-μ-loop : count-lts.MeasureT-loop
+count-μ-loop pattern at stop from₀ places₀ groups₀ records₀ from places groups records = stop - from
+
+abbrev count-calls : ℕ → count-lts.Claims
+count-calls t = (number-at-reads.Asked, number-at-reads.Learnt, inside-start-reads.Asked, inside-start-reads.Learnt, count-below t, count.Post, own-places-reads.Asked, own-places-reads.Learnt, capped-reads.Asked, capped-reads.Learnt, own-groups-reads.Asked, own-groups-reads.Learnt)
+
+count-loop-holds : (t : ℕ) → count-lts.Need-loop-holds (count-calls t) (count-at t) count.Post count-Inv-loop count-μ-loop
+count-loop-holds t c =
+    let the-pre = c .before .pre in
+    adding-none (the-pre .1)
+
+count-add-number-at : (t : ℕ) → count-lts.Need-add-number-at (count-calls t) (count-at t) count.Post count-Inv-loop count-μ-loop
+count-add-number-at t c =
+    let the-pre = c .before .before .before .pre in
+    let the-loop = c .before .loop in
+    let the-loop-test = c .loop-test in
+    let f = first (the-pre .1) (the-loop .inv) (the-loop-test .taken) in omega arith
+
+count-number-at-requires : (t : ℕ) → count-lts.Need-number-at-requires (count-calls t) (count-at t) count.Post count-Inv-loop count-μ-loop
+count-number-at-requires t c κs =
+    let the-pre = c .before .before .before .pre in
+    let the-loop = c .before .loop in
+    let the-loop-test = c .loop-test in
+    let f = first (the-pre .1) (the-loop .inv) (the-loop-test .taken) in omega arith
+
+count-add-start : (t : ℕ) → count-lts.Need-add-start (count-calls t) (count-at t) count.Post count-Inv-loop count-μ-loop
+count-add-start t c =
+    let the-pre = c .before .before .before .before .pre in
+    let the-loop = c .before .before .loop in
+    let the-loop-test = c .before .loop-test in
+    let f = first (the-pre .1) (the-loop .inv) (the-loop-test .taken) in omega arith
+
+count-number-at-requires-2 : (t : ℕ) → count-lts.Need-number-at-requires-2 (count-calls t) (count-at t) count.Post count-Inv-loop count-μ-loop
+count-number-at-requires-2 t c κs =
+    let the-pre = c .before .before .before .before .pre in
+    let the-loop = c .before .before .loop in
+    let the-loop-test = c .before .loop-test in
+    let f = first (the-pre .1) (the-loop .inv) (the-loop-test .taken) in omega arith
+
+count-add-end : (t : ℕ) → count-lts.Need-add-end (count-calls t) (count-at t) count.Post count-Inv-loop count-μ-loop
+count-add-end t c =
+    let the-pre = c .before .before .before .before .before .pre in
+    let the-loop = c .before .before .before .loop in
+    let the-loop-test = c .before .before .loop-test in
+    let f = first (the-pre .1) (the-loop .inv) (the-loop-test .taken) in omega arith
+
+count-inside-start-requires : (t : ℕ) → count-lts.Need-inside-start-requires (count-calls t) (count-at t) count.Post count-Inv-loop count-μ-loop
+count-inside-start-requires t c κs =
+    let the-pre = c .before .before .before .before .before .pre in
+    let the-loop = c .before .before .before .loop in
+    let the-loop-test = c .before .before .loop-test in
+    let f = first (the-pre .1) (the-loop .inv) (the-loop-test .taken) in omega arith
+
+count-count-requires : (t : ℕ) → count-lts.Need-count-requires (count-calls t) (count-at t) count.Post count-Inv-loop count-μ-loop
+count-count-requires t c κs =
+    let the-pre = c .before .before .before .before .before .before .pre in
+    let the-loop = c .before .before .before .before .loop in
+    let the-loop-test = c .before .before .before .loop-test in
+    let the-number-at = c .before .before .number-at in
+    let the-number-at2 = c .before .number-at2 in
+    let the-inside-start = c .inside-start in
+    let f = first (the-pre .1) (the-loop .inv) (the-loop-test .taken) in (omega (arith, inside-after (the-number-at .result) (the-loop .from + 4) (the-loop .from + 4 + the-number-at2 .result) (omega arith)), read-inside (the-loop .from) (the-number-at .ensures .0) (the-number-at2 .ensures .0) (the-inside-start .ensures) f)
+
+count-own-places-requires : (t : ℕ) → count-lts.Need-own-places-requires (count-calls t) (count-at t) count.Post count-Inv-loop count-μ-loop
+count-own-places-requires t c κs =
+    let the-pre = c .before .before .before .before .before .before .before .pre in
+    let the-loop = c .before .before .before .before .before .loop in
+    let the-loop-test = c .before .before .before .before .loop-test in
+    let the-number-at = c .before .before .before .number-at in
+    let the-number-at2 = c .before .before .number-at2 in
+    let the-inside-start = c .before .inside-start in
+    let the-count = c .count in
+    let f = first (the-pre .1) (the-loop .inv) (the-loop-test .taken) in read-own (the-loop .from) (the-number-at .ensures .0) (the-number-at2 .ensures .0) (the-inside-start .ensures) f (the-count .ensures)
+
+count-add-capped : (t : ℕ) → count-lts.Need-add-capped (count-calls t) (count-at t) count.Post count-Inv-loop count-μ-loop
+count-add-capped t c =
+    let the-own-places = c .own-places in
+    let the-loop = c .before .before .before .before .before .before .loop in
+    omega (arith, the-own-places .ensures .1, the-loop .inv .small)
+
+count-capped-requires : (t : ℕ) → count-lts.Need-capped-requires (count-calls t) (count-at t) count.Post count-Inv-loop count-μ-loop
+count-capped-requires t c κs = search needs
+
+count-own-groups-requires : (t : ℕ) → count-lts.Need-own-groups-requires (count-calls t) (count-at t) count.Post count-Inv-loop count-μ-loop
+count-own-groups-requires t c κs =
+    let the-pre = c .before .before .before .before .before .before .before .before .before .pre in
+    let the-loop = c .before .before .before .before .before .before .before .loop in
+    let the-loop-test = c .before .before .before .before .before .before .loop-test in
+    let the-number-at = c .before .before .before .before .before .number-at in
+    let the-number-at2 = c .before .before .before .before .number-at2 in
+    let the-inside-start = c .before .before .before .inside-start in
+    let the-count = c .before .before .count in
+    let f = first (the-pre .1) (the-loop .inv) (the-loop-test .taken) in read-groups (the-loop .from) (the-number-at .ensures .0) (the-number-at2 .ensures .0) (the-inside-start .ensures) f (the-count .ensures)
+
+count-add-groups : (t : ℕ) → count-lts.Need-add-groups (count-calls t) (count-at t) count.Post count-Inv-loop count-μ-loop
+count-add-groups t c =
+    let the-own-groups = c .own-groups in
+    let the-loop = c .before .before .before .before .before .before .before .before .loop in
+    let the-pre = c .before .before .before .before .before .before .before .before .before .before .pre in
+    omega (arith, the-own-groups .ensures .1, the-loop .inv .rest (the-pre .1) .groups-left, the-pre .1 .few)
+
+count-add-records : (t : ℕ) → count-lts.Need-add-records (count-calls t) (count-at t) count.Post count-Inv-loop count-μ-loop
+count-add-records t c =
+    let the-pre = c .before .before .before .before .before .before .before .before .before .before .pre in
+    let the-loop = c .before .before .before .before .before .before .before .before .loop in
+    let the-loop-test = c .before .before .before .before .before .before .before .loop-test in
+    let f = first (the-pre .1) (the-loop .inv) (the-loop-test .taken) in omega (arith, the-loop .inv .passed)
+
+count-loop-less : (t : ℕ) → count-lts.Need-loop-less (count-calls t) (count-at t) count.Post count-Inv-loop count-μ-loop
+count-loop-less t c =
+    let the-pre = c .before .before .before .before .before .before .before .before .before .before .pre in
+    let the-loop = c .before .before .before .before .before .before .before .before .loop in
+    let the-loop-test = c .before .before .before .before .before .before .before .loop-test in
+    let f = first (the-pre .1) (the-loop .inv) (the-loop-test .taken) in omega arith
+
+count-loop-again : (t : ℕ) → count-lts.Need-loop-again (count-calls t) (count-at t) count.Post count-Inv-loop count-μ-loop
+count-loop-again t c =
+    let the-loop = c .before .before .before .before .before .before .before .before .loop in
+    let the-number-at = c .before .before .before .before .before .before .number-at in
+    let the-number-at2 = c .before .before .before .before .before .number-at2 in
+    let the-inside-start = c .before .before .before .before .inside-start in
+    let the-pre = c .before .before .before .before .before .before .before .before .before .before .pre in
+    let the-loop-test = c .before .before .before .before .before .before .before .loop-test in
+    let the-count = c .before .before .before .count in
+    let the-own-places = c .before .before .own-places in
+    let the-capped = c .before .capped in
+    let the-own-groups = c .own-groups in
+    adding-turn (the-loop .from) (the-number-at .ensures .0) (the-number-at2 .ensures .0) (the-inside-start .ensures) (the-pre .1) (the-loop .inv) (the-loop-test .taken) (the-count .ensures) (the-own-places .ensures .0) (the-capped .ensures) (the-own-groups .ensures .0)
+
+count-returns : (t : ℕ) → count-lts.Need-returns (count-calls t) (count-at t) count.Post count-Inv-loop count-μ-loop
+count-returns t c =
+    let the-loop = c .before .loop in
+    let the-loop-test = c .loop-test in
+    adding-all (the-loop .inv) (the-loop-test .left)
+
+pub +count-spec : {M : Type 1} → statement M
++count-spec = close μ-count λ t. count-lts.spec (count-calls t)
+    (count-at t)
+    count.Post
+    count-Inv-loop
+    count-μ-loop
+    (count-loop-holds t)
+    (count-add-number-at t)
+    (count-number-at-requires t)
+    (count-add-start t)
+    (count-number-at-requires-2 t)
+    (count-add-end t)
+    (count-inside-start-requires t)
+    (count-count-requires t)
+    (count-own-places-requires t)
+    (count-add-capped t)
+    (count-capped-requires t)
+    (count-own-groups-requires t)
+    (count-add-groups t)
+    (count-add-records t)
+    (count-loop-less t)
+    (count-loop-again t)
+    (count-returns t)
