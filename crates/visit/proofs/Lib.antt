@@ -5,3 +5,4 @@ pub mod PlaceKinds
 pub mod Stamps
 pub mod Moving
 pub mod Carrying
+pub mod Ending

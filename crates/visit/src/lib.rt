@@ -210,3 +210,36 @@ pub fn lead(kind: usize, a: usize, n: usize, at: u16, level: usize, groups: [u16
         rows,
     }
 }
+
+// A place that leads nowhere at once, of kind 6 and on: a set, stop, accept. The winner is stored behind the carried threads, uncounted.
+pub fn settle(
+    pattern: &[u8],
+    line: &[u8],
+    taken: &mut [u16],
+    list: &mut [u16],
+    here: Numbers,
+    at: u16,
+    groups: [u16; 20],
+    count: usize,
+) -> Settled
+    requires { ⌜ Settling (now pattern) at (here .kind) (here .next) (here .a) (here .n) (now taken) (now list) count ⌝ }
+    ensures { λ r. ⌜ Settles (now (pattern .entry)) (now (line .entry)) at (here .kind) (here .next) (here .a) (here .n) groups (now (taken .entry)) (now (list .entry)) count (now (taken .exit)) (now (list .exit)) (r .count) (r .done) ⌝ }
+{
+    let kind = here.kind;
+    if eats(pattern, line, kind, here.a, here.n, at) {
+        let carried = carry(taken, list, here.next, at + 1, groups, count);
+        Settled {
+            count: carried,
+            done: false,
+        }
+    } else if kind == 9 {
+        if wide(at) == line.len() {
+            store(list, count, 0, groups);
+            Settled { count, done: true }
+        } else {
+            Settled { count, done: false }
+        }
+    } else {
+        Settled { count, done: false }
+    }
+}
