@@ -6,3 +6,4 @@ pub mod Stamps
 pub mod Moving
 pub mod Carrying
 pub mod Ending
+pub mod Cells
