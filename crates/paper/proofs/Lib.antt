@@ -42,5 +42,7 @@ pub mod ReplaceBound
 pub mod Run
 pub mod MachineReads
 pub mod Bound
+pub mod Nested
+pub mod Reached
 pub mod EcmaSearch
 pub mod ReadTurns

@@ -20,6 +20,7 @@ use Rattle.paper.proofs.Tree.{Tree, noWay, done, best, Rest, grow}
 use Rattle.paper.proofs.Grown.{reads}
 use Rattle.paper.proofs.Sizes.{length-lay, length-places, nesting-written}
 use Rattle.paper.proofs.Unfold.{Holds, holds-both, holds-behind, Goes, stand, after-level, unfolds, Unfolds, dies, accepts}
+use Rattle.paper.proofs.Visit.{Gives}
 use Rattle.paper.proofs.Run.{Ran, allPairs, ran}
 
 -- what follows a whole pattern: accepting, at the line's end
@@ -83,19 +84,23 @@ places-unfold e first line =
 pub pairs-all : (e : Pattern) (first : ℕ) (line : List ℕ) → allPairs (placesOf e first) line (depth e) ≡ pairs e
 pairs-all e first line = ap (λ (n : ℕ). n * (depth e + 1)) (length-places e first)
 
+-- the first thread gives what the reading says
+pub first-gives : (e : Pattern) (first : ℕ) (line : List ℕ) → Gives (placesOf e first) line (depth e) 0 (at 0 0 noRows ∷ []) (extract e first line)
+first-gives e first line = (
+  treeOf e first line,
+  none,
+  refl,
+  places-unfold e first line,
+  sym (tree-reads e first line) ∙ sym (before-none (best (treeOf e first line) noRows)),
+  refl,
+)
+
 -- the machine of a pattern on a line: its rows, its steps and its turns
 pub machine-ran : (e : Pattern) (first : ℕ) (line : List ℕ)
     → Ran (placesOf e first) line (depth e) (length line) (λ a b. run a b (placesOf e first) line 0 (at 0 0 noRows ∷ []) 0)
     (suc (length line)) (suc (pairs e)) 0 (extract e first line)
 machine-ran e first line =
-    ran (placesOf e first) line (depth e) (length line) 0 (at 0 0 noRows ∷ []) (extract e first line) 0 (omega arith) (
-      treeOf e first line,
-      none,
-      refl,
-      places-unfold e first line,
-      sym (tree-reads e first line) ∙ sym (before-none (best (treeOf e first line) noRows)),
-      refl,
-    )
+    ran (placesOf e first) line (depth e) (length line) 0 (at 0 0 noRows ∷ []) (extract e first line) 0 (omega arith) (first-gives e first line)
     (suc (length line)) (suc (pairs e)) (omega arith) (omega (arith, pairs-all e first line))
 
 -- T1: the machine finds what the reading says

@@ -24,7 +24,7 @@ module _ (code : List Place) (line : List ℕ) (deepest : ℕ) where
     pub same : (positions′ turns′ : ℕ) → bytes < positions′ → allPairs < turns′ → runs positions′ turns′ ≡ runs positions turns
 
   -- a position before any thread
-  good-fresh : (p steps : ℕ) → Good code line deepest p noneUnderway (fresh steps) none
+  pub good-fresh : (p steps : ℕ) → Good code line deepest p noneUnderway (fresh steps) none
   good-fresh p steps =
       record {
         later = none;

@@ -19,12 +19,12 @@ total-same : (n : ℕ) (f g : ℕ → ℕ) → ((j : ℕ) → j < n → f j ≡ 
 total-same zero f g same = refl
 total-same (suc n) f g same = ap₂ _+_ (same n (omega arith)) (total-same n f g (λ j h. same j (omega arith)))
 
-total-constant : (n c : ℕ) → total n (λ j. c) ≡ n * c
+pub total-constant : (n c : ℕ) → total n (λ j. c) ≡ n * c
 total-constant zero c = sym (zero-mul c)
 total-constant (suc n) c = omega (arith, total-constant n c, suc-mul n c)
 
 -- one less at one number is one less in all
-total-less : (n i : ℕ) (f g : ℕ → ℕ) → i < n → f i ≡ suc (g i) → ((j : ℕ) → j ≢ i → f j ≡ g j) → total n f ≡ suc (total n g)
+pub total-less : (n i : ℕ) (f g : ℕ → ℕ) → i < n → f i ≡ suc (g i) → ((j : ℕ) → j ≢ i → f j ≡ g j) → total n f ≡ suc (total n g)
 total-less zero i f g h less other = absurd (omega arith)
 total-less (suc n) i f g h less other = look (eqb n i) refl (total-less n i f g)
   where

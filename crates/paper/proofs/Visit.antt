@@ -72,7 +72,7 @@ or-cases : (b c : Bool) → (b || c) ≡ true → (b ≡ true) ⊎ (c ≡ true)
 or-cases true c h = inl refl
 or-cases false c h = inr h
 
-or-neither : (b c : Bool) → (b || c) ≡ false → (b ≡ false) × (c ≡ false)
+pub or-neither : (b c : Bool) → (b || c) ≡ false → (b ≡ false) × (c ≡ false)
 or-neither true c h = let z : _≡_ {A = ℕ} 0 1 = cc in absurd (omega arith)
 or-neither false c h = (refl, h)
 

@@ -31,6 +31,7 @@ cell-level places x l y m hx hy e = below (decLt l m)
     above : Dec (m < l) → (l < m → ⊥) → l ≡ m
     above (yes h) no-less = absurd (omega (arith, row-before places m l y hy h))
     above (no h) no-less = omega arith
+
     below : Dec (l < m) → l ≡ m
     below (yes h) = absurd (omega (arith, row-before places l m x hx h))
     below (no h) = above (decLt m l) h
@@ -60,8 +61,9 @@ module _ {code pattern : List ℕ} {places cells : ℕ} (w : Wired code pattern 
       four n5 (no n4) =
           subst (λ (l : ℕ). l ≤ w .deep (nextAt code x))
           (sym (ap (λ (b : Bool). cond b 0 (cond (eqb (kindAt code x) 4) (level + 1) level)) (ne-eqb (kindAt code x) 5 n5)
-            ∙ ap (λ (b : Bool). cond b (level + 1) level) (ne-eqb (kindAt code x) 4 n4)))
+          ∙ ap (λ (b : Bool). cond b (level + 1) level) (ne-eqb (kindAt code x) 4 n4)))
           (omega (arith, w .deeper x inside (omega arith)))
+
       five : Dec (kindAt code x ≡ 5) → levelAfter (kindAt code x) level ≤ w .deep (nextAt code x)
       five (yes e) = subst (λ (k : ℕ). levelAfter k level ≤ w .deep (nextAt code x)) (sym e) (omega arith)
       five (no n5) = four n5 (ℕ-discrete (kindAt code x) 4)
@@ -78,7 +80,7 @@ decode-at table pattern zero x h = absurd (omega arith)
 decode-at table pattern (suc n) x h = look (ℕ-discrete x n) (λ lt. decode-at table pattern n x lt)
   where
     look : Dec (x ≡ n) → (x < n → getD (decode table pattern n) x stop ≡ placeAt table pattern x)
-      → getD (decode table pattern (suc n)) x stop ≡ placeAt table pattern x
+        → getD (decode table pattern (suc n)) x stop ≡ placeAt table pattern x
     look (yes e) before =
         getD-at (decode table pattern n) (placeAt table pattern n) [] stop x (decode-long table pattern n ∙ sym e) ∙ ap (placeAt table pattern) (sym e)
     look (no ne) before =
@@ -94,27 +96,29 @@ module _ (places stamp : ℕ) (seen taken list : List ℕ) (count steps : ℕ) (
 
   -- the entry set, the pair is seen and one step more is made
   pub shows-mark : (x l : ℕ) (rows : Rows) → x < places → l * places + x < length seen
-    → Shows places stamp (set seen (l * places + x) stamp) taken list count (steps + 1) false (mark (at x l rows) s)
+      → Shows places stamp (set seen (l * places + x) stamp) taken list count (steps + 1) false (mark (at x l rows) s)
   shows-mark x l rows inside room = record {
     pairs = λ y m hy. look y m hy (ℕ-discrete (m * places + y) (l * places + x));
     marks = sh .marks;
     carried = sh .carried;
     winner = sh .winner;
-    counted = ap (λ (n : ℕ). n + 1) (sh .counted) }
+    counted = ap (λ (n : ℕ). n + 1) (sh .counted);
+  }
     where
       and-false : (a b : Bool) → ((a ≡ true) → (b ≡ true) → ⊥) → (a && b) ≡ false
       and-false true true h = absurd (h refl refl)
       and-false true false h = refl
       and-false false b h = refl
+
       look : (y m : ℕ) → y < places → Dec (m * places + y ≡ l * places + x)
-        → ((eqb x y && eqb l m) || isSeen y m (s .seen)) ≡ eqb (getD (set seen (l * places + x) stamp) (m * places + y) 0) stamp
+          → ((eqb x y && eqb l m) || isSeen y m (s .seen)) ≡ eqb (getD (set seen (l * places + x) stamp) (m * places + y) 0) stamp
       look y m hy (yes e) =
           ap (λ (b : Bool). (b && eqb l m) || isSeen y m (s .seen)) (eq-eqb x y (sym (cell-place places y m x l hy inside e)))
           ∙ (ap (λ (b : Bool). b || isSeen y m (s .seen)) (eq-eqb l m (sym (cell-level places y m x l hy inside e)))
           ∙ sym (ap (λ (i : ℕ). eqb (getD (set seen (l * places + x) stamp) i 0) stamp) e
-            ∙ (ap (λ (v : ℕ). eqb v stamp) (getD-set-same seen (l * places + x) stamp 0 room) ∙ eq-eqb stamp stamp refl)))
+          ∙ (ap (λ (v : ℕ). eqb v stamp) (getD-set-same seen (l * places + x) stamp 0 room) ∙ eq-eqb stamp stamp refl)))
       look y m hy (no ne) =
           ap (λ (b : Bool). b || isSeen y m (s .seen))
-            (and-false (eqb x y) (eqb l m)
-              (λ ex el. ne (ap (λ (j : ℕ). j * places + y) (sym (eqb-true l m el)) ∙ ap (λ (j : ℕ). l * places + j) (sym (eqb-true x y ex)))))
+          (and-false (eqb x y) (eqb l m)
+          (λ ex el. ne (ap (λ (j : ℕ). j * places + y) (sym (eqb-true l m el)) ∙ ap (λ (j : ℕ). l * places + j) (sym (eqb-true x y ex)))))
           ∙ (sh .pairs y m hy ∙ sym (ap (λ (v : ℕ). eqb v stamp) (getD-set-other seen (l * places + x) (m * places + y) stamp 0 ne)))
