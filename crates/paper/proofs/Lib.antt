@@ -20,11 +20,13 @@ pub mod Every
 pub mod Invariant
 pub mod Ends
 pub mod Passes
+pub mod ReadTurns
 pub mod RowLaws
 pub mod RowsKept
 pub mod AnswerRows
 pub mod Ecma
 pub mod EcmaReading
+pub mod EcmaSearch
 pub mod Moved
 -- The list machine: its places, its visits, and that it gives the reading's answer within the bound
 pub mod Once
@@ -36,9 +38,6 @@ pub mod Sizes
 pub mod Unfold
 pub mod Unseen
 pub mod Visit
-pub mod MovedMachine
-pub mod ScanTurns
-pub mod ReplaceBound
 pub mod Run
 pub mod MachineReads
 pub mod Bound
@@ -46,3 +45,6 @@ pub mod Nested
 pub mod Reached
 pub mod EcmaSearch
 pub mod ReadTurns
+pub mod MovedMachine
+pub mod ScanTurns
+pub mod ReplaceBound

@@ -8,14 +8,16 @@ use mathlib.Core.Option.{Option, none, some, Option·map}
 use native.Mathlib.Omega.{arith}
 use native.Mathlib.Nat.{add-suc, add-zero}
 use lib.Dec.{eqb}
-use lib.ListN.{length, getD, drop, length-drop}
-use Rattle.paper.specs.Limits.{lineBytes, absent}
+use lib.ListN.{length, getD, drop}
+use Rattle.paper.specs.Limits.{absent}
 use Rattle.paper.specs.Pattern.{Pattern}
 use Rattle.paper.specs.Rows.{Rows, noRows}
 use Rattle.paper.specs.Reading.{takes}
 use Rattle.paper.specs.Machine.{Place, set, stop, fork, opening, closing, begin, beginOptional, ending, accept, Thread, at, Move, die, win, eat, split, goOn, moveAt, State, fresh, isSeen, isWon, blocked, mark, follow, arrive, visit, visits, Stopped, matched, unmatched, settle, run, pairs, placesOf, machine, stepsOf, rowsOf}
-use Rattle.paper.specs.Match.{wrap, searchSteps}
+use Rattle.paper.specs.Match.{wrap, search, searchSteps}
 use Rattle.paper.specs.Replace.{moved}
+use Rattle.paper.proofs.MachineReads.{machine-searches}
+use Rattle.paper.proofs.Bound.{machine-turns}
 use Rattle.paper.proofs.Moved.{takes-moved, end-moved, setStart-moved, setEnd-moved, clear-moved}
 
 -- a thread, a move, a state and an end of the run with the rows moved
@@ -60,7 +62,7 @@ module _ (p : ℕ) where
   settle-moved v w same none [] steps = refl
   settle-moved v w same none (t ∷ ts) steps = same (t ∷ ts) steps
 
-module _ (p : ℕ) (line : List ℕ) (small : length line ≤ lineBytes) (inside : p ≤ length line) where
+module _ (p : ℕ) (line : List ℕ) (inside : p ≤ length line) where
   -- the move at a place is the rest's, moved
   pub moveAt-moved : (place : Place) (q level : ℕ) (rows : Rows) → q < absent
       → moveAt place line (p + q) level (moved p rows) ≡ movedMove p (moveAt place (drop p line) q level rows)
@@ -112,12 +114,12 @@ module _ (p : ℕ) (line : List ℕ) (small : length line ≤ lineBytes) (inside
       visits-moved turns code q h ts (visit turns code (drop p line) q t s)
 
   -- the run from p + q makes the steps of the run of the rest from q, and stops with its rows moved
-  pub run-moved : (positions turns : ℕ) (code : List Place) (q : ℕ) → q + positions ≤ suc (length (drop p line)) → (ts : List Thread) (steps : ℕ)
+  pub run-moved : (positions turns : ℕ) (code : List Place) (q : ℕ) → q + positions ≤ absent → (ts : List Thread) (steps : ℕ)
       → run positions turns code line (p + q) (map (movedThread p) ts) steps ≡ movedStopped p (run positions turns code (drop p line) q ts steps)
   run-moved zero turns code q h ts steps = refl
   run-moved (suc positions) turns code q h ts steps =
       ap (λ (s : State). settle (run positions turns code line (suc (p + q))) (s .won) (s .carried) (s .steps))
-      (visits-moved turns code q (omega (arith, length-drop p line)) ts (fresh steps)) ∙
+      (visits-moved turns code q (omega arith) ts (fresh steps)) ∙
       settle-moved p (run positions turns code line (suc (p + q))) (run positions turns code (drop p line) (suc q))
       (λ us n.
       ap (λ (at : ℕ). run positions turns code line at (map (movedThread p) us) n) (sym (add-suc p q)) ∙
@@ -134,20 +136,24 @@ rows-moved : (p : ℕ) (stopped : Stopped) → rowsOf (movedStopped p stopped) �
 rows-moved p (matched steps rows) = refl
 rows-moved p (unmatched steps) = refl
 
--- the machine of a pattern, started at p of the whole line, makes the steps that it makes on the rest, and stops with the rest's rows moved by p
-pub machine-moved : (e : Pattern) (first : ℕ) (line : List ℕ) (p : ℕ) → length line ≤ lineBytes → p ≤ length line
-    → run (suc (length (drop p line))) (suc (pairs e)) (placesOf e first) line p (at 0 0 noRows ∷ []) 0 ≡
-    movedStopped p (machine e first (drop p line))
-machine-moved e first line p small inside =
-    let positions = suc (length (drop p line)) in
-    ap (λ (q : ℕ). run positions (suc (pairs e)) (placesOf e first) line q (at 0 0 noRows ∷ []) 0) (sym (add-zero p)) ∙
-    run-moved p line small inside positions (suc (pairs e)) (placesOf e first) 0 (omega arith) (at 0 0 noRows ∷ []) 0
+-- the machine of a pattern, started at p of the whole line, with positions and turns enough, makes the steps that it makes on the rest,
+-- and stops with the rest's rows moved by p
+pub machine-moved : (e : Pattern) (first : ℕ) (line : List ℕ) (p positions turns : ℕ) → p ≤ length line → length (drop p line) < positions
+    → positions ≤ absent → pairs e < turns
+    → run positions turns (placesOf e first) line p (at 0 0 noRows ∷ []) 0 ≡ movedStopped p (machine e first (drop p line))
+machine-moved e first line p positions turns inside enough few many =
+    ap (λ (q : ℕ). run positions turns (placesOf e first) line q (at 0 0 noRows ∷ []) 0) (sym (add-zero p)) ∙
+    run-moved p line inside positions turns (placesOf e first) 0 (omega arith) (at 0 0 noRows ∷ []) 0 ∙
+    ap (movedStopped p) (machine-turns e first (drop p line) positions turns enough many)
 
 -- so a search from p makes the steps of the search of the rest, and finds its rows moved by p
-pub search-run-moved : (e : Pattern) (line : List ℕ) (p : ℕ) → length line ≤ lineBytes → p ≤ length line
-    → let stopped = run (suc (length (drop p line))) (suc (pairs (wrap e))) (placesOf (wrap e) 0) line p (at 0 0 noRows ∷ []) 0 in
-    (stepsOf stopped ≡ searchSteps e (drop p line)) × (rowsOf stopped ≡ Option·map (moved p) (rowsOf (machine (wrap e) 0 (drop p line))))
-search-run-moved e line p small inside =
-    let same = machine-moved (wrap e) 0 line p small inside in
-    let stopped = machine (wrap e) 0 (drop p line) in
-    (ap stepsOf same ∙ steps-moved p stopped, ap rowsOf same ∙ rows-moved p stopped)
+pub search-run-moved : (e : Pattern) (line : List ℕ) (p positions turns : ℕ) → p ≤ length line → length (drop p line) < positions
+    → positions ≤ absent → pairs (wrap e) < turns
+    → let stopped = run positions turns (placesOf (wrap e) 0) line p (at 0 0 noRows ∷ []) 0 in
+    (stepsOf stopped ≡ searchSteps e (drop p line)) × (rowsOf stopped ≡ Option·map (moved p) (search e (drop p line)))
+search-run-moved e line p positions turns inside enough few many =
+    let same = machine-moved (wrap e) 0 line p positions turns inside enough few many in
+    let stopped = machine (wrap e) 0 (drop p line) in (
+      ap stepsOf same ∙ steps-moved p stopped,
+      ap rowsOf same ∙ rows-moved p stopped ∙ ap (Option·map (moved p)) (machine-searches e (drop p line)),
+    )

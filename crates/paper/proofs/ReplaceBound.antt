@@ -16,6 +16,7 @@ use Rattle.paper.specs.Rows.{Rows, rowStart, rowEnd}
 use Rattle.paper.specs.Match.{search, searchSteps}
 use Rattle.paper.specs.Template.{Piece}
 use Rattle.paper.specs.Replace.{moved, Scan, goOn, afterSearch, scan, replaceAll}
+use Rattle.paper.proofs.Bound.{search-bound}
 use Rattle.paper.proofs.AnswerRows.{Answered}
 use Rattle.paper.proofs.ScanTurns.{Ahead, match-ahead}
 
@@ -46,10 +47,6 @@ triangle-half n = ap (λ (m : ℕ). m / 2) (triangle-twice n) ∙ mul-div-right 
 abbrev pub perPosition : Pattern → ℕ
 perPosition e = (allPlaces e + 10) * (max 1 (depth e) + 1)
 
--- the bound on a search's steps
-abbrev pub SearchBound : Pattern → Type 0
-SearchBound e = (line : List ℕ) → searchSteps e line ≤ perPosition e * (length line + 1)
-
 -- a scan costs at most b wherever it can go on from p
 abbrev CostsPast : ℕ → ℕ → Scan → ℕ → Type 0
 CostsPast n p s b = (q : ℕ) (last : Option ℕ) → p < q → q ≤ n → s q last .steps ≤ b
@@ -70,7 +67,7 @@ afterSearch-costs s template line pieces p last steps b (some found) a costs =
     let end = rowEnd 0 (moved p found) in
     omega (arith, goOn-costs s line p start end last b a costs (ltb start end) (ltb start (length line)) refl refl)
 
-module _ (e : Pattern) (template line : List ℕ) (pieces : List Piece) (small : length line ≤ lineBytes) (bound : SearchBound e) where
+module _ (e : Pattern) (template line : List ℕ) (pieces : List Piece) (small : length line ≤ lineBytes) where
   -- a scan from p on costs at most as much as a search at every position from p on
   pub scan-costs : (searches p : ℕ) (last : Option ℕ) → p ≤ length line
       → scan searches e template line pieces p last .steps ≤ perPosition e * triangle (length line - p)
@@ -86,7 +83,7 @@ module _ (e : Pattern) (template line : List ℕ) (pieces : List Piece) (small :
 
       cost : (r : ℕ) → length line - p ≡ r → searchSteps e (drop p line) ≤ perPosition e * (r + 1)
       cost r left =
-          subst (λ (k : ℕ). searchSteps e (drop p line) ≤ perPosition e * (k + 1)) (length-drop p line ∙ left) (bound (drop p line))
+          subst (λ (k : ℕ). searchSteps e (drop p line) ≤ perPosition e * (k + 1)) (length-drop p line ∙ left) (search-bound e (drop p line))
 
       look : (r : ℕ) → length line - p ≡ r
           → ((q : ℕ) (next : Option ℕ) → q ≤ length line
