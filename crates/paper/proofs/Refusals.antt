@@ -201,6 +201,10 @@ replacements =
     ∷ (replacing manyB dash [] (7 ∷ []) gives replaced (accepted (record { length = 1; replaced = 1; steps = 10 })) (45 ∷ []))
     -- replaced by nothing is replaced: a in "aba"
     ∷ (replacing (2 ∷ 0 ∷ 2 ∷ 0 ∷ 97 ∷ 97 ∷ []) [] (97 ∷ 98 ∷ 97 ∷ []) (replicate 3 7) gives replaced (accepted (record { length = 1; replaced = 2; steps = 53 })) (98 ∷ 7 ∷ 7 ∷ []))
+    -- a suppressed empty match is not tried again for a longer one: a|b*? by "-" in "ab"
+    ∷ (replacing (22 ∷ 0 ∷ 5 ∷ 0 ∷ 2 ∷ 0 ∷ 2 ∷ 0 ∷ 97 ∷ 97 ∷ 12 ∷ 0 ∷ 6 ∷ 0 ∷ 0 ∷ 0 ∷ 255 ∷ 255 ∷ 1 ∷ 0 ∷ 2 ∷ 0 ∷ 2 ∷ 0 ∷ 98 ∷ 98 ∷ []) dash (97 ∷ 98 ∷ []) (replicate 3 7) gives replaced (accepted (record { length = 3; replaced = 2; steps = 64 })) (45 ∷ 98 ∷ 45 ∷ []))
+    -- reference 0 is the match: a by "$0$0" in "ab"
+    ∷ (replacing (2 ∷ 0 ∷ 2 ∷ 0 ∷ 97 ∷ 97 ∷ []) (2 ∷ 0 ∷ 33 ∷ 0 ∷ 0 ∷ 0 ∷ 2 ∷ 0 ∷ 33 ∷ 0 ∷ 0 ∷ 0 ∷ []) (97 ∷ 98 ∷ []) (replicate 3 7) gives replaced (accepted (record { length = 3; replaced = 1; steps = 32 })) (97 ∷ 97 ∷ 98 ∷ []))
     -- no match: the rest is copied: a in "bb"
     ∷ (replacing (2 ∷ 0 ∷ 2 ∷ 0 ∷ 97 ∷ 97 ∷ []) dash (98 ∷ 98 ∷ []) (replicate 2 7) gives replaced (accepted (record { length = 2; replaced = 0; steps = 17 })) (98 ∷ 98 ∷ []))
     -- an absent group puts in nothing: (a)|b by "$1" in "ba"
@@ -268,5 +272,5 @@ cases-told =
     refl refl refl refl refl refl refl refl refl refl refl refl refl refl refl refl refl refl refl refl refl refl refl
     refl refl refl refl refl refl refl refl refl refl refl refl refl refl refl refl
     refl refl refl refl refl refl refl refl
-    refl refl refl refl refl refl refl refl refl refl refl refl refl refl refl refl refl refl
+    refl refl refl refl refl refl refl refl refl refl refl refl refl refl refl refl refl refl refl refl
     refl refl refl refl refl refl refl refl refl refl refl refl refl
