@@ -7,3 +7,4 @@ pub mod Moving
 pub mod Carrying
 pub mod Ending
 pub mod Cells
+pub mod Turns
