@@ -1,0 +1,62 @@
+-- The two public promises. What a part of the one slice or the other is worth under the second, and that each promise allows one answer: the
+-- cases of the enum are told apart by what they are read as, and a reference is what it points at and what stands there.
+use Prim.Native.Nat.{ℕ, _+_, _-_}
+use native.Mathlib.Nat.{add-comm}
+use native.Mathlib.Omega.{arith}
+use mathlib.Core.Path.{_≡_, refl, sym, _∙_, ap, ap₂, subst}
+use mathlib.Core.List.{List, []}
+use lib.ListN.{take, drop}
+use denote.Ref.{RefT, ptr, now}
+use Rattle.paper.specs.Refusal.{Checked, refused, accepted}
+use Rattle.paper.specs.Piece.{Source, fromTemplate, fromLine, Span, pieceCall, sourceBytes}
+use Rattle.template.specs.declared.Answer.{Answer}
+use Rattle.template.specs.Answer.{answerOf, intoSource, IsPart}
+
+-- ---- the second call's answers
+
+module _ (answer : Checked Span) (template line : RefT (List ℕ)) (name : ℕ) where
+  -- the empty part at the template's start, where the call refuses
+  pub part-refused : (number place : ℕ) → answer ≡ refused number place → IsPart answer template line (record { ptr = template .ptr; name = name; now = [] })
+  part-refused number place is =
+      subst (λ (a : Checked Span). IsPart a template line (record { ptr = template .ptr; name = name; now = [] })) (sym is) (record { bytes = refl; stands = refl })
+
+  -- a part of the source that is named
+  pub part-of : (source : Source) (start end : ℕ) → answer ≡ accepted (record { source = source; start = start; end = end }) → IsPart answer template line (record { ptr = (intoSource source (template .ptr) (line .ptr) .0, start + intoSource source (template .ptr) (line .ptr) .1); name = name; now = take (end - start) (drop start (sourceBytes source (template .now) (line .now))) })
+  part-of source start end is =
+      subst (λ (a : Checked Span). IsPart a template line (record { ptr = (intoSource source (template .ptr) (line .ptr) .0, start + intoSource source (template .ptr) (line .ptr) .1); name = name; now = take (end - start) (drop start (sourceBytes source (template .now) (line .now))) })) (sym is)
+      (record { bytes = refl; stands = ap (λ (n : ℕ). (intoSource source (template .ptr) (line .ptr) .0, n)) (add-comm start (intoSource source (template .ptr) (line .ptr) .1)) })
+
+-- ---- one answer each
+
+-- what an accepted span has
+abbrev sourceOr : Source → Checked Span → Source
+sourceOr other (refused number place) = other
+sourceOr other (accepted span) = span .source
+
+abbrev startOr : ℕ → Checked Span → ℕ
+startOr other (refused number place) = other
+startOr other (accepted span) = span .start
+
+abbrev endOr : ℕ → Checked Span → ℕ
+endOr other (refused number place) = other
+endOr other (accepted span) = span .end
+
+-- no two answers of the first call are read alike
+pub answerOf-injective : (a b : Answer) → answerOf a ≡ answerOf b → a ≡ b
+answerOf-injective (Answer.Refused n p) (Answer.Refused m q) is = cc
+answerOf-injective (Answer.Refused n p) (Answer.Template s e) is = cc
+answerOf-injective (Answer.Refused n p) (Answer.Line s e) is = cc
+answerOf-injective (Answer.Template s e) (Answer.Refused n p) is = cc
+answerOf-injective (Answer.Template s e) (Answer.Template t f) is = ap₂ Answer.Template (ap (startOr 0) is) (ap (endOr 0) is)
+answerOf-injective (Answer.Template s e) (Answer.Line t f) is = cc (ap (sourceOr fromLine) is)
+answerOf-injective (Answer.Line s e) (Answer.Refused n p) is = cc
+answerOf-injective (Answer.Line s e) (Answer.Template t f) is = cc (ap (sourceOr fromLine) is)
+answerOf-injective (Answer.Line s e) (Answer.Line t f) is = ap₂ Answer.Line (ap (startOr 0) is) (ap (endOr 0) is)
+
+-- the first call's promise allows one answer
+pub piece-one : (template line table : List ℕ) (number : ℕ) (a b : Answer) → answerOf a ≡ pieceCall template line table number → answerOf b ≡ pieceCall template line table number → a ≡ b
+piece-one template line table number a b first second = answerOf-injective a b (first ∙ sym second)
+
+-- the second call's promise allows one answer: the same place and the same bytes, which are all of a reference but its ghost name
+pub part-one : (answer : Checked Span) (template line a b : RefT (List ℕ)) → IsPart answer template line a → IsPart answer template line b → (ptr a ≡ ptr b) × (now a ≡ now b)
+part-one answer template line a b first second = (first .stands ∙ sym (second .stands), first .bytes ∙ sym (second .bytes))

@@ -1,0 +1,3 @@
+-- How the enums of this crate are read.
+pub mod Record
+pub mod Answer
