@@ -35,6 +35,7 @@ search-bound e line =
 abbrev pub mostSteps : ℕ
 mostSteps = (patternPlaces + 10) * patternLevels * (lineBytes + 1)
 
+-- its value
 pub most-steps : mostSteps ≡ 534765600
 most-steps = refl
 

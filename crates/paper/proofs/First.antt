@@ -58,6 +58,7 @@ first-never (o ∷ os) = first-never os
 abbrev pub endsAt : ℕ → Trial
 endsAt n p rows = cond (eqb p n) (some rows) none
 
+-- with that trial the first success is the whole match
 pub first-end : (n : ℕ) (os : List Outcome) → firstOf os (endsAt n) ≡ firstAt n os
 first-end n [] = refl
 first-end n (o ∷ os) = look (eqb (o .end) n) (first-end n os)

@@ -66,11 +66,12 @@ seen-bounds {p} {steps} {threads} e first line r place level h =
     let gives = reached-gives e first line r in
     in-bounds e first line (leaves e first line p threads steps (gives .0) (gives .1) .good .seen place level h .1)
 
--- every thread that comes to a position stands on level 0 at a place of the pattern
+-- threads that all stand on level 0 at a place of the pattern
 abbrev pub AllOnGround : Pattern → List Thread → Type 0
 AllOnGround e [] = Unit {0}
 AllOnGround e (t ∷ ts) = (t .place < allPlaces e) × (t .level ≡ 0) × AllOnGround e ts
 
+-- so do all that come to a position
 pub reached-ground : {p steps : ℕ} {threads : List Thread} (e : Pattern) (first : ℕ) (line : List ℕ) → Reached e first line p threads steps
     → AllOnGround e threads
 reached-ground {p} {threads = threads} e first line r = let gives = reached-gives e first line r in ground threads (gives .0) (gives .1)

@@ -46,6 +46,7 @@ height (byte t) = suc (height t)
 height (choice a b) = suc (height a + height b)
 height (act change t) = suc (height t)
 
+-- one of two is there if either is
 pub won-before : (a b : Option Rows) → isWon (before a b) ≡ (isWon a || isWon b)
 won-before none b = refl
 won-before (some rows) b = refl
@@ -99,6 +100,7 @@ pub data After (n p level : ℕ) : ℕ → ℕ → Type 0 where
   stay : After n p level p level
   on : {q : ℕ} → p < q → q ≤ n → After n p level q 0
 
+-- leaving one pattern and then the next is leaving both
 pub after-after : {n p level q m r k : ℕ} → After n p level q m → After n q m r k → After n p level r k
 after-after stay next = next
 after-after (on h bound) stay = on h bound

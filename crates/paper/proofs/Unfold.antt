@@ -162,6 +162,7 @@ module _ (code : List Place) (line : List ℕ) (deepest : ℕ) where
   abbrev pub Goes : ℕ → ℕ → ℕ → Rest → Type 0
   Goes p level next rest = (q m : ℕ) → After (length line) p level q m → Unfolds (rest q m) q next m
 
+  -- how a place is found to stand: by what the list has there and the move of that
   pub stand : {move : Rows → Move} (p level place : ℕ) (x : Place) → place < length code → getD code place stop ≡ x → level ≤ deepest
       → ((rows : Rows) → moveAt x line p level rows ≡ move rows) → Stands p place level move
   stand p level place x inside here low move =
@@ -224,6 +225,7 @@ module _ (code : List Place) (line : List ℕ) (deepest : ℕ) where
       (λ q′ m′ after′. goes q′ m′ (after-after (on further bound) after′)))))
       (goes p level stay)
 
+  -- a written-out pattern, laid out at its base and followed by a place that unfolds to what follows, unfolds to its tree
   pub unfolds : (e : Core) (base next p level : ℕ) (rest : Rest) → Holds code base (lay e base next) → level + nesting e ≤ deepest
       → Goes p level next rest → Unfolds (grow line e p level rest) p (entry e base next) level
   unfolds dead base next p level rest h low goes = dies (stand p level base stop (h .0) (h .1) (omega arith) (λ rows. refl))

@@ -19,6 +19,7 @@ total-same : (n : ℕ) (f g : ℕ → ℕ) → ((j : ℕ) → j < n → f j ≡ 
 total-same zero f g same = refl
 total-same (suc n) f g same = ap₂ _+_ (same n (omega arith)) (total-same n f g (λ j h. same j (omega arith)))
 
+-- a constant summed up
 pub total-constant : (n c : ℕ) → total n (λ j. c) ≡ n * c
 total-constant zero c = sym (zero-mul c)
 total-constant (suc n) c = omega (arith, total-constant n c, suc-mul n c)

@@ -41,6 +41,7 @@ use Rattle.paper.proofs.Unseen.{unseen, unseen-mark}
 abbrev pub Also : Tree → (Tree → Type 0) → Tree → Type 0
 Also t underway u = (u ≡ t) ⊎ underway u
 
+-- no tree is under way
 abbrev pub noneUnderway : Tree → Type 0
 noneUnderway t = ⊥
 
@@ -72,6 +73,7 @@ or-cases : (b c : Bool) → (b || c) ≡ true → (b ≡ true) ⊎ (c ≡ true)
 or-cases true c h = inl refl
 or-cases false c h = inr h
 
+-- neither of two tests
 pub or-neither : (b c : Bool) → (b || c) ≡ false → (b ≡ false) × (c ≡ false)
 or-neither true c h = let z : _≡_ {A = ℕ} 0 1 = cc in absurd (omega arith)
 or-neither false c h = (refl, h)
