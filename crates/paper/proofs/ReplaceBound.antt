@@ -1,21 +1,23 @@
 -- The sum of replace-all's steps: a search that starts at p costs by the bytes from p on, and the next starts further on, so the sum is
 -- at most that of a search at every position: 1 + 2 + … + (length + 1) times what a search costs a position.
-use Prim.Native.Nat.{ℕ, zero, suc, _+_, _-_, _*_, _/_, _≤_, _<_, max}
+use Prim.Native.Nat.{ℕ, zero, suc, _+_, _-_, _*_, _/_, _^_, _≤_, _<_, max}
 use mathlib.Core.Path.{_≡_, refl, sym, ap, ap₂, subst, _∙_}
 use mathlib.Core.Bool.{Bool, true, false}
 use mathlib.Core.List.{List}
 use mathlib.Core.Option.{Option, none, some}
 use native.Mathlib.Omega.{arith}
-use native.Mathlib.Nat.{le-trans, mul-comm, mul-add, mul-left-comm, mul-le-mul-left, mul-div-right, sub-zero}
+use native.Mathlib.Nat.{le-trans, mul-comm, mul-add, mul-left-comm, mul-le-mul, mul-le-mul-left, mul-div-right, sub-zero}
 use lib.Dec.{ltb, lit<}
 use lib.ListN.{length, drop, length-drop}
 use borrow.Author.Tests.{ltb-true}
-use Rattle.paper.specs.Limits.{lineBytes}
+use Rattle.paper.specs.Limits.{patternPlaces, patternLevels, lineBytes}
+use Rattle.paper.specs.Layout.{Lawful}
 use Rattle.paper.specs.Pattern.{Pattern, allPlaces, depth}
 use Rattle.paper.specs.Rows.{Rows, rowStart, rowEnd}
 use Rattle.paper.specs.Match.{search, searchSteps}
 use Rattle.paper.specs.Template.{Piece}
 use Rattle.paper.specs.Replace.{moved, Scan, goOn, afterSearch, scan, replaceAll}
+use Rattle.paper.proofs.Sizes.{depth-levels}
 use Rattle.paper.proofs.Bound.{search-bound}
 use Rattle.paper.proofs.AnswerRows.{Answered}
 use Rattle.paper.proofs.ScanTurns.{Ahead, match-ahead}
@@ -42,6 +44,9 @@ triangle-twice (suc n) =
 -- so the sum is their half
 pub triangle-half : (n : ℕ) → (n + 1) * (n + 2) / 2 ≡ triangle n
 triangle-half n = ap (λ (m : ℕ). m / 2) (triangle-twice n) ∙ mul-div-right (triangle n) (lit< tt)
+
+half-mono : (n m : ℕ) → n ≤ m → (n + 1) * (n + 2) / 2 ≤ (m + 1) * (m + 2) / 2
+half-mono n m h = rw (triangle-half n, triangle-half m) (triangle-mono n m h)
 
 -- what a search costs at most for each position of its line
 abbrev pub perPosition : Pattern → ℕ
@@ -117,3 +122,19 @@ module _ (e : Pattern) (template line : List ℕ) (pieces : List Piece) (small :
       subst (λ (k : ℕ). 2 * replaceAll e template pieces line .steps ≤ k)
       (mul-left-comm 2 (perPosition e) (triangle n) ∙ ap (λ (m : ℕ). perPosition e * m) (sym (triangle-twice n)))
       (mul-le-mul-left 2 replaceAll-triangle)
+
+-- the greatest sum of steps that a replace-all within the limits can have
+abbrev pub mostSum : ℕ
+mostSum = (patternPlaces + 10) * patternLevels * ((lineBytes + 1) * (lineBytes + 2) / 2)
+
+-- it is far below what 64 bits hold
+pub most-sum-fits : mostSum < 2 ^ 64
+most-sum-fits = lit< tt
+
+-- the sum of steps of a replace-all within the limits
+pub replaceAll-most : (e : Pattern) (template line : List ℕ) (pieces : List Piece) → Lawful e → length line ≤ lineBytes
+    → replaceAll e template pieces line .steps ≤ mostSum
+replaceAll-most e template line pieces lawful small =
+    let few : allPlaces e + 10 ≤ patternPlaces + 10 = omega (arith, lawful .few-places) in
+    let low : max 1 (depth e) + 1 ≤ patternLevels = omega (arith, depth-levels e, lawful .few-levels) in
+    le-trans (replaceAll-steps e template line pieces small) (mul-le-mul (mul-le-mul few low) (half-mono (length line) lineBytes small))
