@@ -20,15 +20,15 @@ pub mod Every
 pub mod Invariant
 pub mod Ends
 pub mod Passes
-pub mod ReadTurns
 pub mod RowLaws
 pub mod RowsKept
 pub mod AnswerRows
 pub mod Ecma
 pub mod EcmaReading
-pub mod EcmaSearch
 pub mod Moved
 -- The list machine: its places, its visits, and that it gives the reading's answer within the bound
+pub mod ReadTurns
+pub mod EcmaSearch
 pub mod Once
 pub mod First
 pub mod Untouched
@@ -43,8 +43,6 @@ pub mod MachineReads
 pub mod Bound
 pub mod Nested
 pub mod Reached
-pub mod EcmaSearch
-pub mod ReadTurns
 pub mod MovedMachine
 pub mod ScanTurns
 pub mod ReplaceBound
