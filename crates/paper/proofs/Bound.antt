@@ -4,14 +4,17 @@ use native.Mathlib.Omega.{arith}
 use native.Mathlib.Nat.{mul-comm, mul-le-mul, le-trans}
 use mathlib.Core.Path.{_≡_, refl, ap₂, subst, _∙_}
 use mathlib.Core.List.{List, [], _∷_}
+use mathlib.Core.Option.{Option}
 use lib.Dec.{lit≤}
 use lib.ListN.{length}
+use borrow.Author.Tests.{le-leb}
 use Rattle.paper.specs.Limits.{patternPlaces, patternLevels, lineBytes, stepLimit}
 use Rattle.paper.specs.Pattern.{Pattern, allPlaces, depth}
 use Rattle.paper.specs.Layout.{Lawful}
-use Rattle.paper.specs.Rows.{noRows}
+use Rattle.paper.specs.Refusal.{accepted}
+use Rattle.paper.specs.Rows.{Rows, noRows}
 use Rattle.paper.specs.Machine.{placesOf, at, run, pairs, machine, stepsOf}
-use Rattle.paper.specs.Match.{wrap, matchSteps, searchSteps}
+use Rattle.paper.specs.Match.{wrap, matchSteps, searchSteps, counted}
 use Rattle.paper.proofs.Sizes.{places-wrap, depth-wrap, depth-levels}
 use Rattle.paper.proofs.Run.{allPairs}
 use Rattle.paper.proofs.MachineReads.{machine-ran, pairs-all}
@@ -64,6 +67,10 @@ pub search-steps : (e : Pattern) (line : List ℕ) → Lawful e → length line 
 search-steps e line lawful short =
     le-trans (search-bound e line)
     (within (allPlaces e + 10) (max 1 (depth e) + 1) (length line) (omega (arith, lawful .few-places)) (omega (arith, deep-enough e lawful)) short)
+
+-- so within the limits no match and no search has too many steps to tell
+pub counted-told : (rows : Option Rows) (steps : ℕ) → steps ≤ mostSteps → counted rows steps ≡ accepted (record { rows = rows; steps = steps })
+counted-told rows steps few = rw (le-leb steps stepLimit (le-trans few most-told))
 
 -- T8: any larger numbers of positions and of turns leave the run as it is, so neither is a limit
 pub machine-turns : (e : Pattern) (first : ℕ) (line : List ℕ) (positions turns : ℕ) → suc (length line) ≤ positions → suc (pairs e) ≤ turns
