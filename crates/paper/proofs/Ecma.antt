@@ -3,7 +3,7 @@
 use Prim.Native.Nat.{ℕ, zero, suc, _+_}
 use mathlib.Core.Bool.{cond}
 use mathlib.Core.List.{List, []}
-use mathlib.Core.Option.{Option, none, some}
+use mathlib.Core.Option.{Option, none}
 use lib.Dec.{leb, eqb}
 use lib.ListN.{length, getD}
 use Rattle.paper.specs.Pattern.{Mode, greedy, lazy, Upper, upTo, noEnd, Range, Pattern, Members, groups}
@@ -11,6 +11,7 @@ use Rattle.paper.specs.Pattern.Pattern.{nothing, empty, bytes, group, se
 use Rattle.paper.specs.Pattern.Members.{two, more}
 use Rattle.paper.specs.Rows.{setRow, clear}
 use Rattle.paper.specs.Reading.{Outcome, inSet}
+use Rattle.paper.proofs.First.{before}
 
 -- 22.2.2.1, MatchState: an end index and the captures. An outcome has the same two parts; an undefined capture is an absent row
 abbrev pub MatchState : Type 0
@@ -33,8 +34,7 @@ Matcher = MatchState → Continuation → MatchResult
 
 -- the two steps "if z is not failure, return z; return w", which many clauses end with
 abbrev pub unlessFailure : MatchResult → MatchResult → MatchResult
-unlessFailure none w = w
-unlessFailure (some z) w = some z
+unlessFailure z w = before z w
 
 -- 22.2.2.3.2 EmptyMatcher: go on from the same state
 abbrev pub emptyMatcher : Matcher

@@ -1,9 +1,9 @@
 -- ECMA-262's matcher gives the first success of its continuation over the outcomes of the ordered reading, taken in their order.
 -- By induction over patterns; in a repeat over the turns, with the empty check as the dropping of passes that consume nothing.
 use Prim.Native.Nat.{ℕ, zero, suc, _+_, _-_, _≤_, _<_, max}
-use mathlib.Core.Path.{_≡_, refl, sym, ap, ap₂, _∙_}
+use mathlib.Core.Path.{_≡_, refl, sym, ap, ap₂, fun-ext, _∙_}
 use mathlib.Core.Bool.{Bool, true, false, cond, _&&_}
-use mathlib.Core.List.{List, [], _∷_, _++_}
+use mathlib.Core.List.{List, [], _∷_}
 use mathlib.Core.Option.{Option, none, some}
 use native.Mathlib.Omega.{arith}
 use native.Mathlib.Nat.{sub-zero, suc-sub-suc}
@@ -15,18 +15,22 @@ use Rattle.paper.specs.Pattern.Pattern.{nothing, empty, bytes, group, se
 use Rattle.paper.specs.Pattern.Members.{two, more}
 use Rattle.paper.specs.Layout.{CountsRight, WellMade, AllWellMade}
 use Rattle.paper.specs.Rows.{Rows, noRows, setRow}
-use Rattle.paper.specs.Reading.{Outcome, Reading, here, bind, inTurn, orElse, inSet, oneByte, spanning, grouped, passOf, mustPasses, unlessAt, consuming, prefer, optionalPasses, optionalCount, read, readSequence, readAlternation}
+use Rattle.paper.specs.Reading.{Outcome, Reading, here, inTurn, orElse, inSet, oneByte, spanning, grouped, passOf, mustPasses, unlessAt, consuming, prefer, optionalPasses, optionalCount, read, readSequence, readAlternation}
 use Rattle.paper.specs.Match.{firstAt, extract}
+use Rattle.paper.proofs.First.{TrialFor, firstOf, before-none, first-append, first-bind}
 use Rattle.paper.proofs.Every.{Property, Every}
 use Rattle.paper.proofs.Invariant.{Sound}
 use Rattle.paper.proofs.Ends.{Within, pass-ends}
 use Rattle.paper.proofs.Passes.{one-pass-then-all}
 use Rattle.paper.proofs.Ecma.{MatchState, MatchResult, failure, Continuation, Matcher, unlessFailure, matchSequence, matchTwoAlternatives, characterSetMatcher, captureMatcher, undefinedCaptures, passOrGoOn, repeatMatcher, compile, compileSequence, compileAlternation}
 
+-- a continuation as what is tried at the end of an outcome
+abbrev pub tried : Continuation → TrialFor MatchState
+tried c p rows = c (record { end = p; rows = rows })
+
 -- the first state, in order, from which the continuation does not fail
 abbrev pub firstSuccess : Continuation → List Outcome → MatchResult
-firstSuccess c [] = failure
-firstSuccess c (o ∷ os) = unlessFailure (c o) (firstSuccess c os)
+firstSuccess c os = firstOf os (tried c)
 
 -- a matcher takes the outcomes of a reading in their order
 abbrev pub Takes : Matcher → Reading → Type 0
@@ -34,28 +38,8 @@ Takes m reading = (x : MatchState) (c : Continuation) → m x c ≡ firstSuccess
 
 -- Laws of the first success
 
-unlessFailure-none : (z : MatchResult) → unlessFailure z failure ≡ z
-unlessFailure-none none = refl
-unlessFailure-none (some z) = refl
-
-unlessFailure-assoc : (a b c : MatchResult) → unlessFailure (unlessFailure a b) c ≡ unlessFailure a (unlessFailure b c)
-unlessFailure-assoc none b c = refl
-unlessFailure-assoc (some a) b c = refl
-
-pub success-here : (c : Continuation) (x : MatchState) → c x ≡ firstSuccess c (x ∷ [])
-success-here c x = sym (unlessFailure-none (c x))
-
-pub success-append : (c : Continuation) (os us : List Outcome) → firstSuccess c (os ++ us) ≡ unlessFailure (firstSuccess c os) (firstSuccess c us)
-success-append c [] us = refl
-success-append c (o ∷ os) us =
-    ap (unlessFailure (c o)) (success-append c os us) ∙ sym (unlessFailure-assoc (c o) (firstSuccess c os) (firstSuccess c us))
-
-pub success-bind : (c : Continuation) (os : List Outcome) (next : Reading)
-    → firstSuccess c (bind os next) ≡ firstSuccess (λ o. firstSuccess c (next (o .end) (o .rows))) os
-success-bind c [] next = refl
-success-bind c (o ∷ os) next =
-    success-append c (next (o .end) (o .rows)) (bind os next) ∙
-    ap (unlessFailure (firstSuccess c (next (o .end) (o .rows)))) (success-bind c os next)
+success-here : (c : Continuation) (x : MatchState) → c x ≡ firstSuccess c (x ∷ [])
+success-here c x = sym (before-none (c x))
 
 -- continuations that agree on every outcome have the same first success
 pub success-agree : (P : Property) (c d : Continuation) (os : List Outcome) → Every P os → ((o : MatchState) → P (o .end) (o .rows) → c o ≡ d o)
@@ -63,12 +47,8 @@ pub success-agree : (P : Property) (c d : Continuation) (os : List Outcome) → 
 success-agree P c d [] h g = refl
 success-agree P c d (o ∷ os) h g = ap₂ unlessFailure (g o (h .0)) (success-agree P c d os (h .1) g)
 
-every-any : (os : List Outcome) → Every (λ q s. Unit {0}) os
-every-any [] = tt
-every-any (o ∷ os) = (tt, every-any os)
-
 success-same : (c d : Continuation) (os : List Outcome) → ((o : MatchState) → c o ≡ d o) → firstSuccess c os ≡ firstSuccess d os
-success-same c d os g = success-agree (λ q s. Unit {0}) c d os (every-any os) (λ o h. g o)
+success-same c d os g = ap (λ (k : Continuation). firstSuccess k os) (fun-ext g)
 
 -- The matchers one by one
 
@@ -76,12 +56,12 @@ sequence-takes : (m1 m2 : Matcher) (first second : Reading) → Takes m1 first �
 sequence-takes m1 m2 first second t1 t2 x c =
     let os = first (x .end) (x .rows) in
     t1 x (λ y. m2 y c) ∙ success-same (λ y. m2 y c) (λ y. firstSuccess c (second (y .end) (y .rows))) os (λ y. t2 y c) ∙
-    sym (success-bind c os second)
+    sym (first-bind os second (tried c))
 
 alternatives-take : (m1 m2 : Matcher) (first second : Reading) → Takes m1 first → Takes m2 second
     → Takes (matchTwoAlternatives m1 m2) (orElse first second)
 alternatives-take m1 m2 first second t1 t2 x c =
-    ap₂ unlessFailure (t1 x c) (t2 x c) ∙ sym (success-append c (first (x .end) (x .rows)) (second (x .end) (x .rows)))
+    ap₂ unlessFailure (t1 x c) (t2 x c) ∙ sym (first-append (first (x .end) (x .rows)) (second (x .end) (x .rows)) (tried c))
 
 character-takes : (ranges : List Range) (line : List ℕ) → Takes (characterSetMatcher ranges line) (oneByte ranges line)
 character-takes ranges line x c = look (ltb (x .end) (length line)) (inSet ranges (getD line (x .end) 0))
@@ -104,7 +84,7 @@ capture-takes k m inside t x c =
     t x d ∙
     success-same d (λ y. firstSuccess c (spanning k (x .end) (y .end) (y .rows))) os
     (λ y. success-here c (record { end = y .end; rows = setRow k (x .end) (y .end) (y .rows) })) ∙
-    sym (success-bind c os (spanning k (x .end)))
+    sym (first-bind os (spanning k (x .end)) (tried c))
 
 -- Repeats
 
@@ -141,8 +121,8 @@ module _ (n : ℕ) (mode : Mode) (first count : ℕ) (out m : Matcher) (inside :
       t (undefinedCaptures first count x) d ∙
       success-agree (Within n p (x .rows)) d (λ y. firstSuccess k (unlessAt p (y .end) (y .rows))) os (s p (x .rows))
       (λ y w. look y w (eqb (y .end) p) refl) ∙
-      sym (success-bind k os (unlessAt p)) ∙
-      sym (success-bind c (consuming (passOf first count inside) p (x .rows)) rest)
+      sym (first-bind os (unlessAt p) (tried k)) ∙
+      sym (first-bind (consuming (passOf first count inside) p (x .rows)) rest (tried c))
     where
       look : (y : MatchState) → Within n (x .end) (x .rows) (y .end) (y .rows) → (b : Bool) → eqb (y .end) (x .end) ≡ b
           → cond b failure (again y c) ≡
@@ -156,9 +136,9 @@ module _ (n : ℕ) (mode : Mode) (first count : ℕ) (out m : Matcher) (inside :
       → pass ≡ firstSuccess c (again (x .end) (x .rows))
       → passOrGoOn 0 preferred pass (c x) ≡ firstSuccess c (prefer preferred again here (x .end) (x .rows))
   pass-or-go-on greedy again pass x c e =
-      ap₂ unlessFailure e (success-here c x) ∙ sym (success-append c (again (x .end) (x .rows)) (here (x .end) (x .rows)))
+      ap₂ unlessFailure e (success-here c x) ∙ sym (first-append (again (x .end) (x .rows)) (here (x .end) (x .rows)) (tried c))
   pass-or-go-on lazy again pass x c e =
-      ap₂ unlessFailure (success-here c x) e ∙ sym (success-append c (here (x .end) (x .rows)) (again (x .end) (x .rows)))
+      ap₂ unlessFailure (success-here c x) e ∙ sym (first-append (here (x .end) (x .rows)) (again (x .end) (x .rows)) (tried c))
 
   optional-takes : (turns : ℕ) (upper : Upper) (x : MatchState) (c : Continuation) → n - x .end < turns
       → repeatMatcher turns out m 0 upper mode first count x c ≡
@@ -191,7 +171,7 @@ module _ (n : ℕ) (mode : Mode) (first count : ℕ) (out m : Matcher) (inside :
       t (undefinedCaptures first count x) (λ y. again y c) ∙
       success-agree (Within n (x .end) (x .rows)) (λ y. again y c) (λ y. firstSuccess c (rest (y .end) (y .rows))) os (s (x .end) (x .rows))
       (λ y w. agree y (w .0) (w .1)) ∙
-      sym (success-bind c os rest)
+      sym (first-bind os rest (tried c))
 
   repeat-takes : (min turns : ℕ) (upper : Upper) (x : MatchState) (c : Continuation) → AtMost min upper → min + (n - x .end) < turns
       → repeatMatcher turns out m min upper mode first count x c ≡

@@ -15,9 +15,10 @@ use Rattle.paper.specs.Layout.{WellMade}
 use Rattle.paper.specs.Rows.{Rows, noRows, setRow}
 use Rattle.paper.specs.Reading.{Outcome, Reading, here, bind, inTurn, inSet, takes, everyByte, oneByte, spanning, passOf, unlessAt, consuming, optionalPasses, read}
 use Rattle.paper.specs.Match.{search}
+use Rattle.paper.proofs.First.{first-append, first-bind}
 use Rattle.paper.proofs.Ends.{Within, ends}
 use Rattle.paper.proofs.Ecma.{MatchResult, failure, Continuation, Matcher, unlessFailure, compile}
-use Rattle.paper.proofs.EcmaReading.{firstSuccess, endsAt, capturesOf, first-at-end, success-append, success-bind, success-agree, compile-takes}
+use Rattle.paper.proofs.EcmaReading.{firstSuccess, endsAt, capturesOf, tried, first-at-end, success-agree, compile-takes}
 
 -- ECMA-262's search
 
@@ -87,9 +88,9 @@ module _ (line : List ℕ) (bytes : Bytes line) (first : ℕ) where
       look (yes past) further =
           let rest = optionalPasses m greedy anyPass in
           ap (λ (os : List Outcome). firstSuccess (endsAt (length line)) (bind os rest ++ here q rows)) (pass-on q rows past) ∙
-          success-append (endsAt (length line)) (rest (suc q) rows ++ []) (here q rows) ∙
+          first-append (rest (suc q) rows ++ []) (here q rows) (tried (endsAt (length line))) ∙
           ap (λ (z : MatchResult). unlessFailure z (firstSuccess (endsAt (length line)) (here q rows)))
-          (success-append (endsAt (length line)) (rest (suc q) rows) [] ∙ ap (λ (z : MatchResult). unlessFailure z failure) (further past))
+          (first-append (rest (suc q) rows) [] (tried (endsAt (length line))) ∙ ap (λ (z : MatchResult). unlessFailure z failure) (further past))
       look (no end) further =
           ap (λ (os : List Outcome). firstSuccess (endsAt (length line)) (bind os (optionalPasses m greedy anyPass) ++ here q rows))
           (pass-ends-here q rows (omega arith)) ∙
@@ -131,8 +132,8 @@ module _ (e : Pattern) (line : List ℕ) (bytes : Bytes line) where
       let os = read e line 1 q noRows in
       let star = optionalPasses n greedy (passOf (0 + groups (group e)) 0 (oneByte everyByte line)) in
       let behind : Continuation = λ y. firstSuccess (endsAt n) (star (y .end) (y .rows)) in
-      success-bind (endsAt n) (read (group e) line 0 q noRows) star ∙
-      success-bind behind os (spanning 0 q) ∙
+      first-bind (read (group e) line 0 q noRows) star (tried (endsAt n)) ∙
+      first-bind os (spanning 0 q) (tried behind) ∙
       success-agree (Within n q noRows) (λ y. firstSuccess behind (spanning 0 q (y .end) (y .rows))) (found n q) os (ends e line 1 q noRows)
       (λ y w.
       ap (λ (z : MatchResult). unlessFailure z failure)
@@ -153,5 +154,5 @@ module _ (e : Pattern) (line : List ℕ) (bytes : Bytes line) where
         let n = length line in
         let star = optionalPasses n lazy (passOf 0 0 (oneByte everyByte line)) 0 noRows in
         first-at-end n (bind star patternThenStar) ∙
-        ap capturesOf (success-bind (endsAt n) star patternThenStar ∙ from-each line bytes 0 whatIsLeft n 0 noRows (omega arith)) ∙
+        ap capturesOf (first-bind star patternThenStar (tried (endsAt n)) ∙ from-each line bytes 0 whatIsLeft n 0 noRows (omega arith)) ∙
         each-as-exec (suc n) 0 (omega arith)
