@@ -1,0 +1,3 @@
+-- What the contracts of this crate cite beside `paper`.
+pub mod Answer
+pub mod Walk
