@@ -99,7 +99,7 @@ impl Spans {
         [Spans::ABSENT; Spans::NUMBERS]
     }
 
-    // The numbers of rows and of numbers are `paper`'s.
+    // The counts above are `paper`'s.
     pub fn limits() -> [usize; 2]
         ensures { λ r. ⌜ r ≡ rowCount ∷ tableNumbers ∷ [] ⌝ }
     {
@@ -227,7 +227,7 @@ pub fn check(pattern: &[u8]) -> Answer
         };
     }
     match walk::any_record(pattern, 0, long, Pattern::LEVELS, 0) {
-        Walked::Refused { number, place } => Answer::Refused { number, place },
+        Walked::Refused(number, place) => Answer::Refused { number, place },
         Walked::Record {
             end,
             places,

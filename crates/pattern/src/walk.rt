@@ -17,10 +17,8 @@ const REPEAT_HEAD: usize = 6;
 
 // What the walk of a record answers.
 pub enum Walked {
-    Refused {
-        number: usize,
-        place: usize,
-    },
+    // the number and the place of the first fault
+    Refused(usize, usize),
     // where it ends, its places up to the limit, its depth, and the groups up to its end
     Record {
         end: usize,
@@ -32,10 +30,8 @@ pub enum Walked {
 
 // What the walk of the records in a holder answers.
 pub enum Several {
-    Fault {
-        number: usize,
-        place: usize,
-    },
+    // the number and the place of the first fault
+    Fault(usize, usize),
     // how many there are, their places up to the limit, their depth, and the groups up to their end
     Members {
         count: usize,
@@ -57,7 +53,7 @@ fn leaf(right: bool, number: usize, at: usize, end: usize, places: usize, before
             groups: before,
         }
     } else {
-        Walked::Refused { number, place: at }
+        Walked::Refused(number, at)
     }
 }
 
@@ -67,7 +63,7 @@ fn as_group(inner: Walked) -> Walked
     ensures { λ r. ⌜ r ≡ groupOf inner ⌝ }
 {
     match inner {
-        Walked::Refused { number, place } => Walked::Refused { number, place },
+        Walked::Refused(number, place) => Walked::Refused(number, place),
         Walked::Record {
             end,
             places,
@@ -88,7 +84,7 @@ fn as_repeat(inner: Walked, least: usize, optional: usize) -> Walked
     ensures { λ r. ⌜ r ≡ repeatOf least optional inner ⌝ }
 {
     match inner {
-        Walked::Refused { number, place } => Walked::Refused { number, place },
+        Walked::Refused(number, place) => Walked::Refused(number, place),
         Walked::Record {
             end,
             places,
@@ -121,7 +117,7 @@ fn as_several(inner: Several, at: usize, end: usize, forks: bool) -> Walked
     ensures { λ r. ⌜ r ≡ severalOf at end forks inner ⌝ }
 {
     match inner {
-        Several::Fault { number, place } => Walked::Refused { number, place },
+        Several::Fault(number, place) => Walked::Refused(number, place),
         Several::Members {
             count,
             places,
@@ -129,10 +125,7 @@ fn as_several(inner: Several, at: usize, end: usize, forks: bool) -> Walked
             groups,
         } => {
             if count < 2 {
-                Walked::Refused {
-                    number: Refusal::BROKEN_RECORD,
-                    place: at,
-                }
+                Walked::Refused(Refusal::BROKEN_RECORD, at)
             } else if forks {
                 Walked::Record {
                     end,
@@ -158,22 +151,13 @@ pub fn any_record(s: &[u8], at: usize, stop: usize, levels: usize, before: usize
     ensures { λ r. ⌜ Tells stop levels (bodyEnd (now (s .entry)) at) before (walkRecord levels (now (s .entry)) at stop before) r ⌝ }
 {
     match records::header_at(s, at, stop) {
-        Header::Broken => Walked::Refused {
-            number: Refusal::BROKEN_RECORD,
-            place: at,
-        },
+        Header::Broken => Walked::Refused(Refusal::BROKEN_RECORD, at),
         Header::Record { kind, start, end } => {
             if Kind::REPEAT < kind {
-                return Walked::Refused {
-                    number: Refusal::UNKNOWN_KIND,
-                    place: at,
-                };
+                return Walked::Refused(Refusal::UNKNOWN_KIND, at);
             }
             if levels == 0 {
-                return Walked::Refused {
-                    number: Refusal::TOO_DEEP,
-                    place: at,
-                };
+                return Walked::Refused(Refusal::TOO_DEEP, at);
             }
             body(s, kind, at, start, end, levels - 1, before)
         }
@@ -219,10 +203,7 @@ fn group(s: &[u8], at: usize, start: usize, end: usize, left: usize, before: usi
     if before < Pattern::GROUPS {
         as_group(one_inside(s, at, start, end, left, before + 1))
     } else {
-        Walked::Refused {
-            number: Refusal::TOO_MANY_GROUPS,
-            place: at,
-        }
+        Walked::Refused(Refusal::TOO_MANY_GROUPS, at)
     }
 }
 
@@ -232,10 +213,7 @@ fn repeat(s: &[u8], at: usize, start: usize, end: usize, left: usize, before: us
     ensures { λ r. ⌜ Tells end (left + 1) end before (body repeatKind (walkRecord left (now (s .entry))) (now (s .entry)) at before) r ⌝ }
 {
     if end - start < REPEAT_HEAD {
-        return Walked::Refused {
-            number: Refusal::BROKEN_RECORD,
-            place: at,
-        };
+        return Walked::Refused(Refusal::BROKEN_RECORD, at);
     }
     let least = records::number_at(s, start);
     let most = records::number_at(s, start + 2);
@@ -247,10 +225,7 @@ fn repeat(s: &[u8], at: usize, start: usize, end: usize, left: usize, before: us
             counts::optional(least, most),
         )
     } else {
-        Walked::Refused {
-            number: Refusal::REPEAT_WRONG,
-            place: at,
-        }
+        Walked::Refused(Refusal::REPEAT_WRONG, at)
     }
 }
 
@@ -260,7 +235,7 @@ fn one_inside(s: &[u8], at: usize, from: usize, end: usize, left: usize, before:
     ensures { λ r. ⌜ Tells end left end before (single (walkRecord left (now (s .entry))) (now (s .entry)) at from before) r ⌝ }
 {
     match any_record(s, from, end, left, before) {
-        Walked::Refused { number, place } => Walked::Refused { number, place },
+        Walked::Refused(number, place) => Walked::Refused(number, place),
         Walked::Record {
             end: after,
             places,
@@ -268,10 +243,7 @@ fn one_inside(s: &[u8], at: usize, from: usize, end: usize, left: usize, before:
             groups,
         } => {
             if after < end {
-                Walked::Refused {
-                    number: Refusal::BROKEN_RECORD,
-                    place: at,
-                }
+                Walked::Refused(Refusal::BROKEN_RECORD, at)
             } else {
                 Walked::Record {
                     end,
@@ -296,8 +268,8 @@ fn all_inside(s: &[u8], at: usize, start: usize, end: usize, left: usize, before
     let mut groups = before;
     while next < end {
         match any_record(s, next, end, left, groups) {
-            Walked::Refused { number, place } => {
-                return Several::Fault { number, place };
+            Walked::Refused(number, place) => {
+                return Several::Fault(number, place);
             }
             Walked::Record {
                 end: after,
