@@ -8,3 +8,4 @@ pub mod Carrying
 pub mod Ending
 pub mod Cells
 pub mod Turns
+pub mod Loop

@@ -34,6 +34,13 @@ pub struct Settled {
     pub done: bool,
 }
 
+// What a visit leaves: how many threads are carried, the steps so far, and whether a thread has won.
+pub struct Visited {
+    pub count: usize,
+    pub steps: u32,
+    pub done: bool,
+}
+
 // A number of a table as an index.
 pub fn wide(x: u16) -> usize
     ensures { λ r. ⌜ r ≡ x ⌝ }
@@ -242,4 +249,76 @@ pub fn settle(
     } else {
         Settled { count, done: false }
     }
+}
+
+// An arrival at a place on a level, with all that it leads to at this position. It calls itself only for the preferred branch of a fork.
+pub fn visit(
+    code: &[u16],
+    pattern: &[u8],
+    line: &[u8],
+    seen: &mut [u16],
+    taken: &mut [u16],
+    list: &mut [u16],
+    places: usize,
+    at: u16,
+    start: usize,
+    height: usize,
+    groups: [u16; 20],
+    carried: usize,
+    before: u32,
+) -> Visited
+    requires { ⌜ Arrives (now code) (now pattern) places at start height (now seen) (now taken) (now list) carried before ⌝ }
+    ensures { λ r. ⌜ Visits (now (code .entry)) (now (pattern .entry)) (now (line .entry)) places at start height groups (now (seen .entry)) (now (taken .entry)) (now (list .entry)) carried before (now (seen .exit)) (now (taken .exit)) (now (list .exit)) (r .count) (r .steps) (r .done) ⌝ }
+{
+    let mut place = start;
+    let mut level = height;
+    let mut rows = groups;
+    let mut count = carried;
+    let mut steps = before;
+    let mut goes = true;
+    let mut done = false;
+    while goes {
+        if mark(seen, level * places + place, at + 1) {
+            steps = steps + 1;
+            let here = numbers_of(code, place);
+            let kind = here.kind;
+            if kind == 0 {
+                let r = visit(
+                    code,
+                    pattern,
+                    line,
+                    seen,
+                    taken,
+                    list,
+                    places,
+                    at,
+                    here.next,
+                    level,
+                    rows,
+                    count,
+                    steps,
+                );
+                count = r.count;
+                steps = r.steps;
+                done = r.done;
+                goes = !done;
+                place = here.a;
+            } else if kind < 6 {
+                let o = lead(kind, here.a, here.n, at, level, rows);
+                let after = o.rows;
+                rows = after;
+                level = o.level;
+                goes = o.goes;
+                place = here.next;
+            } else {
+                let s = settle(pattern, line, taken, list, here, at, rows, count);
+                count = s.count;
+                done = s.done;
+                goes = false;
+            }
+        } else {
+            goes = false;
+        }
+    }
+    Visited { count, steps, done }
 }
