@@ -15,8 +15,9 @@ use Rattle.paper.specs.Match.{lineAndTable}
 use Rattle.paper.specs.Check.{numberAt, bodyLength, kindAt, bodyStart, bodyEnd}
 use Rattle.paper.specs.Template.{Piece, literal, reference, literalKind, referenceKind, pieceAt, templateOf}
 use Rattle.paper.specs.Piece.{Span, fromTemplate, fromLine, isAbsent, rowSpan, spanOf, spanAt, pieceCall, sourceBytes}
-use Rattle.template.specs.Record.{From}
-use Rattle.template.proofs.Records.{piece-ends, from-template, nth-from}
+use Rattle.template.specs.declared.Record.{Record}
+use Rattle.template.specs.Record.{Shows, From}
+use Rattle.template.proofs.Records.{piece-ends, from-template, nth-from, wrong-from}
 
 -- ---- a row
 
@@ -73,11 +74,9 @@ module _ (bs : List ℕ) (at number : ℕ) (pieces : List Piece) (from : From bs
       let same : piece ≡ first = cc in
       ap (λ (p : Piece). spanOf p size table) same ∙ sym (spanAt-nth number pieces first rest here size table)
 
-  pub nth-right : (place : ℕ) → pieceAt bs at ≡ refused templateWrong place → ⊥
-  nth-right place wrong =
-      let (first, rest, here, next, before, there, behind) = nth-from bs at number pieces from low in
-      let z : _≡_ {A = ℕ} 0 1 = cc in
-      omega arith
+  -- which is no wrong one
+  pub nth-right : Shows bs at Record.Wrong → ⊥
+  nth-right wrong = wrong-from bs at (drop number pieces) from (nth-from bs at number pieces from low .4) wrong
 
 -- past the last there is none
 spanAt-past : (pieces : List Piece) (number : ℕ) → length pieces ≤ number → (size : ℕ) (table : Rows) → spanAt pieces number size table ≡ refused noSuchPiece 0

@@ -12,7 +12,7 @@ use Rattle.paper.specs.Check.{bodyEnd}
 use Rattle.paper.specs.Template.{Piece, literal, reference, pieceAt, piecesFrom, templateOf, within}
 use Rattle.template.specs.declared.Record.{Record}
 use Rattle.template.specs.Record.{Shows, From, Numbered, recordCount}
-use Rattle.template.proofs.Records.{piece-ends, from-template, first-from, none-from, nth-from}
+use Rattle.template.proofs.Records.{piece-ends, from-template, none-from, nth-from, literal-from, reference-from, wrong-from, numbered-low}
 
 -- ---- counting
 
@@ -37,7 +37,9 @@ pub record Counting (bs : List ℕ) (at count : ℕ) : Type 0 where
   pub same : counts 0 (piecesFrom (length bs) bs 0) ≡ counts count (piecesFrom (length bs - count) bs at)
 
 module _ (bs : List ℕ) where
-  turn : (turns at : ℕ) → at < length bs → (piece : Checked Piece) → pieceAt bs at ≡ piece → piecesFrom (suc turns) bs at ≡ (piece >>= λ first. piecesFrom turns bs (bodyEnd bs at) >>= λ rest. accepted (first ∷ rest))
+  -- one turn more, and none where the template ends
+  turn : (turns at : ℕ) → at < length bs → (piece : Checked Piece) → pieceAt bs at ≡ piece
+      → piecesFrom (suc turns) bs at ≡ (piece >>= λ first. piecesFrom turns bs (bodyEnd bs at) >>= λ rest. accepted (first ∷ rest))
   turn turns at before piece is = rw (lt-ltb _ _ before, is)
 
   stop : (turns at : ℕ) → length bs ≤ at → piecesFrom turns bs at ≡ accepted []
@@ -58,16 +60,21 @@ module _ (bs : List ℕ) where
       record { inside = omega arith; few = omega arith; same = ap (λ (n : ℕ). counts 0 (piecesFrom n bs 0)) all }
 
   module _ (at count : ℕ) (kept : Counting bs at count) where
-    -- the turns that are left
-    one-left : at < length bs → length bs - count ≡ suc (length bs - (count + 1))
-    one-left before = omega arith
+    -- what is found from here on, by the record that stands here
+    here : at < length bs → (piece : Checked Piece) → pieceAt bs at ≡ piece
+        → counts 0 (piecesFrom (length bs) bs 0) ≡ counts count (piece >>= λ first. piecesFrom (length bs - (count + 1)) bs (bodyEnd bs at) >>= λ rest. accepted (first ∷ rest))
+    here before piece is =
+        let one-left : length bs - count ≡ suc (length bs - (count + 1)) = omega arith in
+        kept .same ∙ ap (λ (n : ℕ). counts count (piecesFrom n bs at)) one-left ∙ ap (counts count) (turn (length bs - (count + 1)) at before piece is)
 
-    count-next : at < length bs → (piece : Piece) → pieceAt bs at ≡ accepted piece → (next : ℕ) → next ≡ bodyEnd bs at → at < next → Counting bs next (count + 1)
+    count-next : at < length bs → (piece : Piece) → pieceAt bs at ≡ accepted piece → (next : ℕ) → next ≡ bodyEnd bs at → at < next
+        → Counting bs next (count + 1)
     count-next before piece is next ends further = record {
       inside = omega (arith, piece-ends bs at piece is);
       few = omega arith;
-      same = kept .same ∙ ap (λ (n : ℕ). counts count (piecesFrom n bs at)) (one-left before) ∙ ap (counts count) (turn (length bs - (count + 1)) at before (accepted piece) is)
-          ∙ counts-one-more count piece (piecesFrom (length bs - (count + 1)) bs (bodyEnd bs at)) ∙ ap (λ (n : ℕ). counts (count + 1) (piecesFrom (length bs - (count + 1)) bs n)) (sym ends);
+      same =
+          let turns = length bs - (count + 1) in
+          here before (accepted piece) is ∙ counts-one-more count piece (piecesFrom turns bs (bodyEnd bs at)) ∙ ap (λ (n : ℕ). counts (count + 1) (piecesFrom turns bs n)) (sym ends);
     }
 
     pub count-literal : at < length bs → (start end : ℕ) → Shows bs at (Record.Literal start end) → Counting bs end (count + 1)
@@ -77,8 +84,7 @@ module _ (bs : List ℕ) where
     count-reference before row next shows = count-next before (reference at row) (shows .0) next (shows .4) (shows .2)
 
     pub count-wrong : length bs ≤ templateBytes → at < length bs → pieceAt bs at ≡ refused templateWrong at → refused templateWrong at ≡ recordCount bs
-    count-wrong short before is =
-        sym (count-all short ∙ kept .same ∙ ap (λ (n : ℕ). counts count (piecesFrom n bs at)) (one-left before) ∙ ap (counts count) (turn (length bs - (count + 1)) at before (refused templateWrong at) is))
+    count-wrong short before is = sym (count-all short ∙ here before (refused templateWrong at) is)
 
     pub count-end : length bs ≤ templateBytes → length bs ≤ at → accepted count ≡ recordCount bs
     count-end short past =
@@ -96,32 +102,35 @@ module _ (bs : List ℕ) (groups : ℕ) where
   seek-start = record { inside = omega arith; left = λ pieces is. (pieces, from-template bs pieces is, refl) }
 
   module _ (at : ℕ) (kept : Seeking bs groups at) where
-    -- the record here is the first of those that are left
-    here : at < length bs → (piece : Piece) → pieceAt bs at ≡ accepted piece → (pieces : List Piece) → templateOf bs ≡ accepted pieces → (rest : List Piece) × From bs (bodyEnd bs at) rest × (within pieces groups ≡ within (piece ∷ rest) groups)
-    here before piece is pieces all =
-        let (left, from, same) = kept .left pieces all in
-        let (rest, split, behind) = first-from bs at left piece from before is in
-        (rest, behind, same ∙ ap (λ (l : List Piece). within l groups) split)
-
     pub seek-literal : at < length bs → (start end : ℕ) → Shows bs at (Record.Literal start end) → Seeking bs groups end
     seek-literal before start end shows = record {
       inside = shows .3;
       left = λ pieces all.
-          let (rest, behind, same) = here before (literal at start end) (shows .0) pieces all in
-          (rest, subst (λ (n : ℕ). From bs n rest) (sym (shows .4)) behind, same);
+          let (left, from, same) = kept .left pieces all in
+          let (rest, split, behind) = literal-from bs at left start end from before shows in
+          (rest, behind, same ∙ ap (λ (l : List Piece). within l groups) split);
     }
+
+    -- what is left begins with the reference here
+    at-reference : at < length bs → (row next : ℕ) → Shows bs at (Record.Reference row next) → (pieces : List Piece) → templateOf bs ≡ accepted pieces
+        → (rest : List Piece) × From bs next rest × (within pieces groups ≡ within (reference at row ∷ rest) groups)
+    at-reference before row next shows pieces all =
+        let (left, from, same) = kept .left pieces all in
+        let (rest, split, behind) = reference-from bs at left row next from before shows in
+        (rest, behind, same ∙ ap (λ (l : List Piece). within l groups) split)
 
     pub seek-reference : at < length bs → (row next : ℕ) → Shows bs at (Record.Reference row next) → row ≤ groups → Seeking bs groups next
     seek-reference before row next shows low = record {
       inside = shows .3;
       left = λ pieces all.
-          let (rest, behind, same) = here before (reference at row) (shows .0) pieces all in
-          (rest, subst (λ (n : ℕ). From bs n rest) (sym (shows .4)) behind, same ∙ (rw (le-leb row groups low)));
+          let (rest, behind, same) = at-reference before row next shows pieces all in
+          (rest, behind, same ∙ (rw (le-leb row groups low)));
     }
 
-    pub seek-high : at < length bs → (row next : ℕ) → Shows bs at (Record.Reference row next) → groups < row → (pieces : List Piece) → templateOf bs ≡ accepted pieces → refused referenceTooHigh at ≡ within pieces groups
+    pub seek-high : at < length bs → (row next : ℕ) → Shows bs at (Record.Reference row next) → groups < row → (pieces : List Piece)
+        → templateOf bs ≡ accepted pieces → refused referenceTooHigh at ≡ within pieces groups
     seek-high before row next shows high pieces all =
-        let (rest, behind, same) = here before (reference at row) (shows .0) pieces all in
+        let (rest, behind, same) = at-reference before row next shows pieces all in
         sym (same ∙ (rw (lt-leb row groups high)))
 
     pub seek-end : length bs ≤ at → (pieces : List Piece) → templateOf bs ≡ accepted pieces → accepted tt ≡ within pieces groups
@@ -131,14 +140,9 @@ module _ (bs : List ℕ) (groups : ℕ) where
 
     -- a template that is not refused has no wrong record
     pub seek-wrong : at < length bs → Shows bs at Record.Wrong → (pieces : List Piece) → templateOf bs ≡ accepted pieces → ⊥
-    seek-wrong before shows pieces all = no (kept .left pieces all .0) (kept .left pieces all .1)
-      where
-        no : (left : List Piece) → From bs at left → ⊥
-        no [] from = omega arith
-        no (first ∷ rest) from =
-            let is : accepted first ≡ refused templateWrong at = sym (from .1) ∙ shows in
-            let z : _≡_ {A = ℕ} 0 1 = cc in
-            omega arith
+    seek-wrong before shows pieces all =
+        let (left, from, same) = kept .left pieces all in
+        wrong-from bs at left from before shows
 
 -- ---- going to a number
 
@@ -154,10 +158,10 @@ module _ (bs : List ℕ) (number : ℕ) where
       record { low = omega arith; from = λ pieces is. subst (λ (n : ℕ). From bs 0 (drop n pieces)) none (from-template bs pieces is) }
 
   module _ (at left : ℕ) (kept : Reaching bs number at left) (there : Numbered bs number) (some : 0 < left) where
-    behind : (pieces : List Piece) → templateOf bs ≡ accepted pieces → (bodyEnd bs at ≤ length bs) × From bs (bodyEnd bs at) (drop (number - (left - 1)) pieces)
+    behind : (pieces : List Piece) → templateOf bs ≡ accepted pieces
+        → (bodyEnd bs at ≤ length bs) × From bs (bodyEnd bs at) (drop (number - (left - 1)) pieces)
     behind pieces is =
-        let same : pieces ≡ there .0 = cc in
-        let low : number - left < length pieces = omega (arith, kept .low, there .2, ap length same) in
+        let low : number - left < length pieces = omega (arith, kept .low, numbered-low bs number there pieces is) in
         let (first, rest, split, next, before, here, from) = nth-from bs at (number - left) pieces (kept .from pieces is) low in
         let one : number - left + 1 ≡ number - (left - 1) = omega (arith, kept .low) in
         (piece-ends bs at first here, subst (From bs (bodyEnd bs at)) (sym next ∙ ap (λ (n : ℕ). drop n pieces) one) from)
@@ -169,7 +173,8 @@ module _ (bs : List ℕ) (number : ℕ) where
     pub reach-next : (next : ℕ) → next ≡ bodyEnd bs at → Reaching bs number next (left - 1)
     reach-next next ends = record { low = omega (arith, kept .low); from = λ pieces is. subst (λ (n : ℕ). From bs n (drop (number - (left - 1)) pieces)) (sym ends) (behind pieces is .1) }
 
-  pub reach-end : (at left : ℕ) → Reaching bs number at left → left ≤ 0 → (pieces : List Piece) → templateOf bs ≡ accepted pieces → From bs at (drop number pieces)
+  pub reach-end : (at left : ℕ) → Reaching bs number at left → left ≤ 0
+      → (pieces : List Piece) → templateOf bs ≡ accepted pieces → From bs at (drop number pieces)
   reach-end at left kept none pieces is =
       let all : number - left ≡ number = omega arith in
       subst (λ (n : ℕ). From bs at (drop n pieces)) all (kept .from pieces is)

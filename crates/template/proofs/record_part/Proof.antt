@@ -63,7 +63,7 @@ row-part-requires c κs =
 returns : tie.Need-returns
 returns c pieces is =
     let k = c .before .before in
-    absurd (nth-right (bytes (k .before)) (place (k .before)) (number (k .before)) pieces (k .before .place-of .ensures pieces is) (low (k .before) pieces is) (place (k .before))
+    absurd (nth-right (bytes (k .before)) (place (k .before)) (number (k .before)) pieces (k .before .place-of .ensures pieces is) (low (k .before) pieces is)
     (shown k Record.Wrong (c .enum-told .given .1)))
 
 returns-2 : tie.Need-returns-2
