@@ -1,0 +1,75 @@
+// The positions of the line one after the other: the threads of a list visited in order, and those that they carry.
+use visit::Visited;
+ghost use mathlib.Core.Path.{_≡_};
+ghost use mathlib.Core.Bool.{not, _&&_};
+ghost use Prim.Native.Nat.{ℕ, _+_, _<_};
+ghost use lib.Dec.{ltb};
+ghost use lib.ListN.{length, replicate};
+ghost use Rattle.run.specs.Steps.{Stepping, Steps, Running, Runs};
+
+// Makes every entry of a table 0.
+pub fn wipe(table: &mut [u16])
+    ensures { λ _. ⌜ now (table .exit) ≡ replicate (length (now (table .entry))) 0 ⌝ }
+{
+    let mut i = 0;
+    while i < table.len() {
+        table[i] = 0;
+        i = i + 1;
+    }
+}
+
+// Whether another thread is to be visited.
+pub fn more(done: bool, i: usize, number: usize) -> bool
+    ensures { λ r. ⌜ r ≡ (not done && ltb i number) ⌝ }
+{
+    if done { false } else { i < number }
+}
+
+// The threads of a list at one position, in order, until one has won.
+pub fn step(
+    code: &[u16],
+    pattern: &[u8],
+    line: &[u8],
+    seen: &mut [u16],
+    taken: &mut [u16],
+    from: &[u16],
+    number: usize,
+    list: &mut [u16],
+    places: usize,
+    at: u16,
+    before: u32,
+) -> Visited
+    requires { ⌜ Stepping (now code) (now pattern) places at (now seen) (now taken) (now from) number (now list) before ⌝ }
+    ensures { λ r. ⌜ Steps (now (code .entry)) (now (pattern .entry)) (now (line .entry)) places at (now (seen .entry)) (now (taken .entry)) (now (from .entry)) number (now (list .entry)) before (now (seen .exit)) (now (taken .exit)) (now (list .exit)) (r .count) (r .steps) (r .done) ⌝ }
+{
+    let mut i = 0;
+    let mut count = 0;
+    let mut steps = before;
+    let mut done = false;
+    let mut goes = true;
+    while goes {
+        let place = visit::wide(from[21 * i]);
+        let rows = visit::load(from, i);
+        let r = visit::visit(
+            code,
+            pattern,
+            line,
+            seen,
+            taken,
+            list,
+            places,
+            at,
+            place,
+            0,
+            rows,
+            count,
+            steps,
+        );
+        count = r.count;
+        steps = r.steps;
+        done = r.done;
+        i = i + 1;
+        goes = more(done, i, number);
+    }
+    Visited { count, steps, done }
+}
