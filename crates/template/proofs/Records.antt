@@ -18,6 +18,12 @@ use Rattle.records.specs.declared.Header.{Header}
 use Rattle.template.specs.declared.Record.{Record}
 use Rattle.template.specs.Record.{Shows, From, Numbered, recordCount, referencesCall}
 
+-- nothing is refused and accepted
+pub never : {A B : Type 0} {number place : ℕ} {a : A} → refused number place ≡ accepted a → B
+never is =
+    let z : _≡_ {A = ℕ} 0 1 = cc in
+    absurd (omega arith)
+
 -- ---- one record
 
 module _ (bs : List ℕ) (at : ℕ) where
@@ -36,7 +42,7 @@ module _ (bs : List ℕ) (at : ℕ) where
       look : (b : Bool) → leb (bodyEnd bs at) (length bs) ≡ b
           → (holds b templateWrong at >> pieceOfKind bs at (kindAt bs at)) ≡ accepted piece → bodyEnd bs at ≤ length bs
       look true test is = leb-true _ _ test
-      look false test is = let z : _≡_ {A = ℕ} 0 1 = cc in absurd (omega arith)
+      look false test is = never is
 
 -- what a header says decides the record
 module _ (bs : List ℕ) (at kind start end : ℕ) (header : Headed bs at (length bs) (Header.Record kind start end)) where
@@ -103,8 +109,8 @@ from-pieces (suc turns) bs at pieces enough is =
     look false test first f others o behind is =
         let none : [] ≡ pieces = cc in
         subst (From bs at) none (ltb-false _ _ test)
-    look true test (refused number place) f others o behind is = let z : _≡_ {A = ℕ} 0 1 = cc in absurd (omega arith)
-    look true test (accepted piece) f (refused number place) o behind is = let z : _≡_ {A = ℕ} 0 1 = cc in absurd (omega arith)
+    look true test (refused number place) f others o behind is = never is
+    look true test (accepted piece) f (refused number place) o behind is = never is
     look true test (accepted piece) f (accepted rest) o behind is =
         let some : (piece ∷ rest) ≡ pieces = cc in
         subst (From bs at) some (ltb-true _ _ test, f, behind rest o)
@@ -115,7 +121,7 @@ from-template bs pieces is = look (leb (length bs) templateBytes) is
   where
     look : (b : Bool) → (holds b templateWrong 0 >> piecesFrom (length bs) bs 0) ≡ accepted pieces → From bs 0 pieces
     look true is = from-pieces (length bs) bs 0 pieces (omega arith) is
-    look false is = let z : _≡_ {A = ℕ} 0 1 = cc in absurd (omega arith)
+    look false is = never is
 
 -- the record that stands at an offset is the first of those from there on, and the others stand from its end on
 pub first-from : (bs : List ℕ) (at : ℕ) (pieces : List Piece) (piece : Piece) → From bs at pieces → at < length bs → pieceAt bs at ≡ accepted piece
@@ -141,10 +147,7 @@ reference-from bs at pieces row next from before shows =
 -- no wrong record stands among them
 pub wrong-from : (bs : List ℕ) (at : ℕ) (pieces : List Piece) → From bs at pieces → at < length bs → Shows bs at Record.Wrong → ⊥
 wrong-from bs at [] from before shows = omega arith
-wrong-from bs at (first ∷ rest) from before shows =
-    let is : accepted first ≡ refused templateWrong at = sym (from .1) ∙ shows in
-    let z : _≡_ {A = ℕ} 0 1 = cc in
-    omega arith
+wrong-from bs at (first ∷ rest) from before shows = never (sym shows ∙ from .1)
 
 -- where the template ends no record is left
 pub none-from : (bs : List ℕ) (at : ℕ) (pieces : List Piece) → From bs at pieces → length bs ≤ at → pieces ≡ []
@@ -182,7 +185,7 @@ counted-right bs count is = look (templateOf bs) refl is
   where
     look : (found : Checked (List Piece)) → templateOf bs ≡ found → accepted count ≡ (found >>= λ pieces. accepted (length pieces))
         → (pieces : List Piece) × (templateOf bs ≡ accepted pieces) × (count ≡ length pieces)
-    look (refused number at) found is = let z : _≡_ {A = ℕ} 0 1 = cc in absurd (omega arith)
+    look (refused number at) found is = never (sym is)
     look (accepted pieces) found is = (pieces, found, cc)
 
 -- a number that there is stands below the length of the pieces
@@ -201,7 +204,7 @@ references-right bs groups is = look (templateOf bs) refl is
   where
     look : (found : Checked (List Piece)) → templateOf bs ≡ found → accepted tt ≡ (found >>= λ pieces. within pieces groups)
         → (pieces : List Piece) × (templateOf bs ≡ accepted pieces) × (within pieces groups ≡ accepted tt)
-    look (refused number at) found is = let z : _≡_ {A = ℕ} 0 1 = cc in absurd (omega arith)
+    look (refused number at) found is = never (sym is)
     look (accepted pieces) found is = (pieces, found, sym is)
 
 -- 9 or 10 ends a call, whatever would come next

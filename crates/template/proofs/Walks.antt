@@ -22,7 +22,8 @@ counts count (refused number place) = refused number place
 counts count (accepted pieces) = accepted (count + length pieces)
 
 -- one record more in front is one more counted
-counts-one-more : (count : ℕ) (piece : Piece) (found : Checked (List Piece)) → counts count (found >>= λ rest. accepted (piece ∷ rest)) ≡ counts (count + 1) found
+counts-one-more : (count : ℕ) (piece : Piece) (found : Checked (List Piece))
+    → counts count (found >>= λ rest. accepted (piece ∷ rest)) ≡ counts (count + 1) found
 counts-one-more count piece (refused number place) = refl
 counts-one-more count piece (accepted rest) = ap accepted (omega arith)
 
@@ -62,7 +63,8 @@ module _ (bs : List ℕ) where
   module _ (at count : ℕ) (kept : Counting bs at count) where
     -- what is found from here on, by the record that stands here
     here : at < length bs → (piece : Checked Piece) → pieceAt bs at ≡ piece
-        → counts 0 (piecesFrom (length bs) bs 0) ≡ counts count (piece >>= λ first. piecesFrom (length bs - (count + 1)) bs (bodyEnd bs at) >>= λ rest. accepted (first ∷ rest))
+        → counts 0 (piecesFrom (length bs) bs 0)
+        ≡ counts count (piece >>= λ first. piecesFrom (length bs - (count + 1)) bs (bodyEnd bs at) >>= λ rest. accepted (first ∷ rest))
     here before piece is =
         let one-left : length bs - count ≡ suc (length bs - (count + 1)) = omega arith in
         kept .same ∙ ap (λ (n : ℕ). counts count (piecesFrom n bs at)) one-left ∙ ap (counts count) (turn (length bs - (count + 1)) at before piece is)
@@ -74,7 +76,8 @@ module _ (bs : List ℕ) where
       few = omega arith;
       same =
           let turns = length bs - (count + 1) in
-          here before (accepted piece) is ∙ counts-one-more count piece (piecesFrom turns bs (bodyEnd bs at)) ∙ ap (λ (n : ℕ). counts (count + 1) (piecesFrom turns bs n)) (sym ends);
+          here before (accepted piece) is ∙ counts-one-more count piece (piecesFrom turns bs (bodyEnd bs at))
+          ∙ ap (λ (n : ℕ). counts (count + 1) (piecesFrom turns bs n)) (sym ends);
     }
 
     pub count-literal : at < length bs → (start end : ℕ) → Shows bs at (Record.Literal start end) → Counting bs end (count + 1)
@@ -171,7 +174,10 @@ module _ (bs : List ℕ) (number : ℕ) where
     reach-body = behind (there .0) (there .1) .0
 
     pub reach-next : (next : ℕ) → next ≡ bodyEnd bs at → Reaching bs number next (left - 1)
-    reach-next next ends = record { low = omega (arith, kept .low); from = λ pieces is. subst (λ (n : ℕ). From bs n (drop (number - (left - 1)) pieces)) (sym ends) (behind pieces is .1) }
+    reach-next next ends = record {
+      low = omega (arith, kept .low);
+      from = λ pieces is. subst (λ (n : ℕ). From bs n (drop (number - (left - 1)) pieces)) (sym ends) (behind pieces is .1);
+    }
 
   pub reach-end : (at left : ℕ) → Reaching bs number at left → left ≤ 0
       → (pieces : List Piece) → templateOf bs ≡ accepted pieces → From bs at (drop number pieces)

@@ -13,16 +13,18 @@ answerOf (Answer.Refused number place) = refused number place
 answerOf (Answer.Template start end) = accepted (record { source = fromTemplate; start = start; end = end })
 answerOf (Answer.Line start end) = accepted (record { source = fromLine; start = start; end = end })
 
--- where a part starts: so many bytes into the slice that the source names; where the call refuses, at the template's start
-abbrev pub intoSource : Source → ℕ × ℕ → ℕ × ℕ → ℕ × ℕ
-intoSource fromTemplate t l = t
-intoSource fromLine t l = l
+-- the slice that a source names, and where a part stands: so many bytes into that slice; where the call refuses, at the template's start
+abbrev pub sourceSlice : Source → RefT (List ℕ) → RefT (List ℕ) → RefT (List ℕ)
+sourceSlice fromTemplate template line = template
+sourceSlice fromLine template line = line
 
-abbrev pub startOf : Checked Span → ℕ × ℕ → ℕ × ℕ → ℕ × ℕ
-startOf (refused number place) t l = t
-startOf (accepted span) t l = (intoSource (span .source) t l .0, intoSource (span .source) t l .1 + span .start)
+abbrev pub startOf : Checked Span → RefT (List ℕ) → RefT (List ℕ) → ℕ × ℕ
+startOf (refused number place) template line = ptr template
+startOf (accepted span) template line =
+    let slice = sourceSlice (span .source) template line in
+    (ptr slice .0, ptr slice .1 + span .start)
 
 -- the second call's answer: the bytes that the first call's answer names, and they stand in the template or the line itself
 pub record IsPart (answer : Checked Span) (template line part : RefT (List ℕ)) : Type 0 where
   pub bytes : now part ≡ partCall answer (now template) (now line)
-  pub stands : ptr part ≡ startOf answer (ptr template) (ptr line)
+  pub stands : ptr part ≡ startOf answer template line

@@ -31,12 +31,14 @@ place c = c .before .before .loop .at
 abbrev count : tie.After-record-at Inv-loop μ-loop → ℕ
 count c = c .before .before .loop .count
 
-shown-literal : (c : tie.After-known-told Inv-loop μ-loop) → Shows (bytes (c .before .before .before)) (place (c .before .before .before)) (Record.Literal (c .before .end .given .0 .0) (c .before .end .given .0 .1 .0))
+shown-literal : (c : tie.After-known-told Inv-loop μ-loop)
+    → Shows (bytes (c .before .before .before)) (place (c .before .before .before)) (Record.Literal (c .before .end .given .0 .0) (c .before .end .given .0 .1 .0))
 shown-literal c =
     let k = c .before .before .before in
     subst (Shows (bytes k) (place k)) (c .before .end .given .1) (k .record-at .ensures)
 
-shown-reference : (c : tie.After-known-told2 Inv-loop μ-loop) → Shows (bytes (c .before .before .before)) (place (c .before .before .before)) (Record.Reference (c .before .next .given .0 .0) (c .before .next .given .0 .1 .0))
+shown-reference : (c : tie.After-known-told2 Inv-loop μ-loop)
+    → Shows (bytes (c .before .before .before)) (place (c .before .before .before)) (Record.Reference (c .before .next .given .0 .0) (c .before .next .given .0 .1 .0))
 shown-reference c =
     let k = c .before .before .before in
     subst (Shows (bytes k) (place k)) (c .before .next .given .1) (k .record-at .ensures)

@@ -31,12 +31,14 @@ groups c = c .before .before .before .before .args .groups
 abbrev place : tie.After-record-at Inv-loop μ-loop → ℕ
 place c = c .before .before .loop .at
 
-shown-literal : (c : tie.After-known-told Inv-loop μ-loop) → Shows (bytes (c .before .before .before)) (place (c .before .before .before)) (Record.Literal (c .before .end .given .0 .0) (c .before .end .given .0 .1 .0))
+shown-literal : (c : tie.After-known-told Inv-loop μ-loop)
+    → Shows (bytes (c .before .before .before)) (place (c .before .before .before)) (Record.Literal (c .before .end .given .0 .0) (c .before .end .given .0 .1 .0))
 shown-literal c =
     let k = c .before .before .before in
     subst (Shows (bytes k) (place k)) (c .before .end .given .1) (k .record-at .ensures)
 
-shown-reference : (c : tie.After-known-told2 Inv-loop μ-loop) → Shows (bytes (c .before .before .before)) (place (c .before .before .before)) (Record.Reference (c .before .row .given .0 .0) (c .before .row .given .0 .1 .0))
+shown-reference : (c : tie.After-known-told2 Inv-loop μ-loop)
+    → Shows (bytes (c .before .before .before)) (place (c .before .before .before)) (Record.Reference (c .before .row .given .0 .0) (c .before .row .given .0 .1 .0))
 shown-reference c =
     let k = c .before .before .before in
     subst (Shows (bytes k) (place k)) (c .before .row .given .1) (k .record-at .ensures)
@@ -55,7 +57,8 @@ enum-told c = search needs
 returns : tie.Need-returns Inv-loop μ-loop
 returns c pieces all =
     let k = c .before .before in
-    absurd (seek-wrong (bytes k) (groups k) (place k) (k .before .before .loop .inv) (k .before .loop-test .taken) (subst (Shows (bytes k) (place k)) (c .enum-told .given .1) (k .record-at .ensures)) pieces all)
+    absurd (seek-wrong (bytes k) (groups k) (place k) (k .before .before .loop .inv) (k .before .loop-test .taken)
+    (subst (Shows (bytes k) (place k)) (c .enum-told .given .1) (k .record-at .ensures)) pieces all)
 
 enum-known-end : tie.Need-enum-known-end Inv-loop μ-loop
 enum-known-end c = search needs

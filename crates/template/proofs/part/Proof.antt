@@ -25,20 +25,27 @@ due c =
 case : (c : tie.After-piece) (answer : Answer) → c .piece .result ≡ answer → due c ≡ answerOf answer
 case c answer is = sym (c .piece .ensures) ∙ ap answerOf is
 
-inside : (c : tie.After-piece) (span : Span) → due c ≡ accepted span → Inside (c .before .before .before .before .args .template .now) (c .before .before .before .before .args .line .now) span
+inside : (c : tie.After-piece) (span : Span) → due c ≡ accepted span
+    → Inside (c .before .before .before .before .args .template .now) (c .before .before .before .before .args .line .now) span
 inside c span is =
     let s = c .before .before .before .before .args in
     call-inside (s .template .now) (s .line .now) span (s .table .now) (s .number) is
 
-in-template : (c : tie.After-known-told) → Inside (c .before .before .before .before .before .before .before .args .template .now) (c .before .before .before .before .before .before .before .args .line .now) (record { source = fromTemplate; start = c .before .start .given .0 .0; end = c .before .start .given .0 .1 .0 })
+in-template : (c : tie.After-known-told)
+    → Inside (c .before .before .before .before .before .before .before .args .template .now) (c .before .before .before .before .before .before .before .args .line .now)
+    (record { source = fromTemplate; start = c .before .start .given .0 .0; end = c .before .start .given .0 .1 .0 })
 in-template c =
+    let k = c .before .before .before in
     let g = c .before .start .given in
-    inside (c .before .before .before) (record { source = fromTemplate; start = g .0 .0; end = g .0 .1 .0 }) (case (c .before .before .before) (Answer.Template (g .0 .0) (g .0 .1 .0)) (g .1))
+    inside k (record { source = fromTemplate; start = g .0 .0; end = g .0 .1 .0 }) (case k (Answer.Template (g .0 .0) (g .0 .1 .0)) (g .1))
 
-in-line : (c : tie.After-known-told2) → Inside (c .before .before .before .before .before .before .before .args .template .now) (c .before .before .before .before .before .before .before .args .line .now) (record { source = fromLine; start = c .before .start2 .given .0 .0; end = c .before .start2 .given .0 .1 .0 })
+in-line : (c : tie.After-known-told2)
+    → Inside (c .before .before .before .before .before .before .before .args .template .now) (c .before .before .before .before .before .before .before .args .line .now)
+    (record { source = fromLine; start = c .before .start2 .given .0 .0; end = c .before .start2 .given .0 .1 .0 })
 in-line c =
+    let k = c .before .before .before in
     let g = c .before .start2 .given in
-    inside (c .before .before .before) (record { source = fromLine; start = g .0 .0; end = g .0 .1 .0 }) (case (c .before .before .before) (Answer.Line (g .0 .0) (g .0 .1 .0)) (g .1))
+    inside k (record { source = fromLine; start = g .0 .0; end = g .0 .1 .0 }) (case k (Answer.Line (g .0 .0) (g .0 .1 .0)) (g .1))
 
 -- ---- the needs
 

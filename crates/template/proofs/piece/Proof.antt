@@ -72,7 +72,8 @@ returns-4 : tie.Need-returns-4
 returns-4 c =
     let s = c .before .before .before .before .before .before .before .args in
     call-9 (s .template .now) (s .line .now) (s .table .now) (s .number) (c .before .place .given .0 .0)
-    (counted-wrong (s .template .now) (c .before .place .given .0 .0) (sym (ap countOf (c .before .place .given .1)) ∙ c .before .before .before .check-template .ensures))
+    (counted-wrong (s .template .now) (c .before .place .given .0 .0)
+    (sym (ap countOf (c .before .place .given .1)) ∙ c .before .before .before .check-template .ensures))
 
 returns-5 : tie.Need-returns-5
 returns-5 c =

@@ -19,7 +19,8 @@ abbrev μ-loop : tie.MeasureT-loop
 μ-loop template number at₀ left₀ at left = left
 
 -- in the loop a whole record stands at the offset
-whole : (c : tie.In-loop Inv-loop μ-loop) → bodyEnd (c .before .before .before .args .template .now) (c .before .loop .at) ≤ length (c .before .before .before .args .template .now)
+whole : (c : tie.In-loop Inv-loop μ-loop)
+    → bodyEnd (c .before .before .before .args .template .now) (c .before .loop .at) ≤ length (c .before .before .before .args .template .now)
 whole c =
     let s = c .before .before .before in
     reach-body (s .args .template .now) (s .args .number) (c .before .loop .at) (c .before .loop .left) (c .before .loop .inv) (s .pre) (c .loop-test .taken)

@@ -15,7 +15,8 @@ use Rattle.template.proofs.check_template.Reads as check-template-reads
 use Rattle.template.proofs.first_too_high.Reads as first-too-high-reads
 
 -- where the count is answered, the template's pieces are known
-known : (c : tie.After-enum-told) → (pieces : List Piece) × (templateOf (c .before .before .before .before .args .template .now) ≡ accepted pieces) × (c .enum-told .given .0 .0 ≡ length pieces)
+known : (c : tie.After-enum-told)
+    → (pieces : List Piece) × (templateOf (c .before .before .before .before .args .template .now) ≡ accepted pieces) × (c .enum-told .given .0 .0 ≡ length pieces)
 known c =
     counted-right (c .before .before .before .before .args .template .now) (c .enum-told .given .0 .0)
     (sym (ap countOf (c .enum-told .given .1)) ∙ c .before .before .check-template .ensures)
@@ -36,12 +37,14 @@ returns : tie.Need-returns
 returns c =
     let s = c .before .before .before .before .before .args in
     ap (λ (t : Checked (List Piece)). t >>= λ pieces. within pieces (s .groups))
-    (sym (counted-wrong (s .template .now) (c .before .place .given .0 .0) (sym (ap countOf (c .before .place .given .1)) ∙ c .before .before .before .check-template .ensures)))
+    (sym
+    (counted-wrong (s .template .now) (c .before .place .given .0 .0) (sym (ap countOf (c .before .place .given .1)) ∙ c .before .before .before .check-template .ensures)))
 
 returns-2 : tie.Need-returns-2
 returns-2 c =
     let (pieces, is, all) = known (c .before) in
-    c .first-too-high .ensures pieces is ∙ ap (λ (t : Checked (List Piece)). t >>= λ pieces. within pieces (c .before .before .before .before .before .args .groups)) (sym is)
+    c .first-too-high .ensures pieces is
+    ∙ ap (λ (t : Checked (List Piece)). t >>= λ pieces. within pieces (c .before .before .before .before .before .args .groups)) (sym is)
 
 pub references-within-spec : {M : Type 1} → statement M
 references-within-spec =

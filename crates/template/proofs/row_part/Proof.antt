@@ -22,7 +22,8 @@ start s = getD (s .args .table .now) (2 * s .args .row) 0
 abbrev end : tie.Start → ℕ
 end s = getD (s .args .table .now) (2 * s .args .row + 1) 0
 
-read : (s : tie.Start) → rowSpan (s .args .size) (start s) (end s) ≡ rowSpan (s .args .size) (rowStart (s .args .row) (s .args .table .now)) (rowEnd (s .args .row) (s .args .table .now))
+read : (s : tie.Start)
+    → rowSpan (s .args .size) (start s) (end s) ≡ rowSpan (s .args .size) (rowStart (s .args .row) (s .args .table .now)) (rowEnd (s .args .row) (s .args .table .now))
 read s = row-read (s .args .size) (s .args .row) (s .args .table .now) (s .pre .0) (s .pre .1)
 
 there : (c : tie.Joined1) → isAbsent (start (c .before .before .before)) (end (c .before .before .before)) ≡ false
