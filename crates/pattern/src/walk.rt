@@ -230,9 +230,16 @@ fn repeat(s: &[u8], at: usize, start: usize, end: usize, left: usize, before: us
 }
 
 // The one record inside a group or a repeat, from an offset on: bytes left over behind it are a fault of the holder.
-fn one_inside(s: &[u8], at: usize, from: usize, end: usize, left: usize, before: usize) -> Walked
-    requires { ⌜ Room (now s) at end left before × (from ≤ end) ⌝ }
-    ensures { λ r. ⌜ Tells end left end before (single (walkRecord left (now (s .entry))) (now (s .entry)) at from before) r ⌝ }
+fn one_inside(
+    s: &[u8],
+    holder: usize,
+    from: usize,
+    end: usize,
+    left: usize,
+    before: usize,
+) -> Walked
+    requires { ⌜ Room (now s) holder end left before × (from ≤ end) ⌝ }
+    ensures { λ r. ⌜ Tells end left end before (single (walkRecord left (now (s .entry))) (now (s .entry)) holder from before) r ⌝ }
 {
     match any_record(s, from, end, left, before) {
         Walked::Refused(number, place) => Walked::Refused(number, place),
@@ -243,7 +250,7 @@ fn one_inside(s: &[u8], at: usize, from: usize, end: usize, left: usize, before:
             groups,
         } => {
             if after < end {
-                Walked::Refused(Refusal::BROKEN_RECORD, at)
+                Walked::Refused(Refusal::BROKEN_RECORD, holder)
             } else {
                 Walked::Record {
                     end,

@@ -396,6 +396,7 @@ body-returns-7 t c =
     let the-args = c .before .before .before .args in
     let the-pre = c .before .before .before .pre in
     let the-repeat = c .repeat in
+   
     let not = the-match .rest in
     rw (last-kind (the-args .kind) (the-pre .1 .2) (not .0 .0 .0 .0 .0 .1) (not .0 .0 .0 .0 .1) (not .0 .0 .0 .1) (not .0 .0 .1) (not .0 .1) (not .1)) (the-repeat .ensures)
 
@@ -450,7 +451,7 @@ one-inside-returns t c =
     let the-pre = c .before .before .before .before .before .pre in
     let the-number = c .before .number in
     let the-any-record = c .before .before .before .any-record in
-    refusal (inner-fault (walkRecord (the-args .left) (the-args .s .now)) (the-args .s .now) (the-args .at) (the-args .from) (the-args .end) (the-args .before) (the-pre .1 .0 .ends) (fault-of (bodyEnd (the-args .s .now) (the-args .from)) (the-args .before) (walkRecord (the-args .left) (the-args .s .now) (the-args .from) (the-args .end) (the-args .before)) (sym (the-number .given .1) ∙ the-any-record .ensures .answer)))
+    refusal (inner-fault (walkRecord (the-args .left) (the-args .s .now)) (the-args .s .now) (the-args .holder) (the-args .from) (the-args .end) (the-args .before) (the-pre .1 .0 .ends) (fault-of (bodyEnd (the-args .s .now) (the-args .from)) (the-args .before) (walkRecord (the-args .left) (the-args .s .now) (the-args .from) (the-args .end) (the-args .before)) (sym (the-number .given .1) ∙ the-any-record .ensures .answer)))
 
 -- src/walk.rt:258:1
 one-inside-returns-2 : (t : ℕ) → one-inside-lts.Need-returns-2 (one-inside-calls t) (one-inside-at t) one-inside.Post
@@ -459,7 +460,7 @@ one-inside-returns-2 t c =
     let the-after = c .before .before .after in
     let the-any-record = c .before .before .before .before .any-record in
     let the-pre = c .before .before .before .before .before .before .pre in
-    let f = tree-of (walkRecord (the-args .left) (the-args .s .now) (the-args .from) (the-args .end) (the-args .before)) (sym (the-after .given .1) ∙ the-any-record .ensures .answer) in refusal (left-over (walkRecord (the-args .left) (the-args .s .now)) (the-args .s .now) (the-args .at) (the-args .from) (the-args .end) (the-args .before) (the-pre .1 .0 .ends) (f .is) (omega (arith, f .ends)))
+    let f = tree-of (walkRecord (the-args .left) (the-args .s .now) (the-args .from) (the-args .end) (the-args .before)) (sym (the-after .given .1) ∙ the-any-record .ensures .answer) in refusal (left-over (walkRecord (the-args .left) (the-args .s .now)) (the-args .s .now) (the-args .holder) (the-args .from) (the-args .end) (the-args .before) (the-pre .1 .0 .ends) (f .is) (omega (arith, f .ends)))
 
 -- src/walk.rt:258:1
 one-inside-returns-3 : (t : ℕ) → one-inside-lts.Need-returns-3 (one-inside-calls t) (one-inside-at t) one-inside.Post
@@ -469,7 +470,7 @@ one-inside-returns-3 t c =
     let the-any-record = c .before .before .before .before .any-record in
     let the-pre = c .before .before .before .before .before .before .pre in
     let the-if1 = c .if1 in
-    let f = tree-of (walkRecord (the-args .left) (the-args .s .now) (the-args .from) (the-args .end) (the-args .before)) (sym (the-after .given .1) ∙ the-any-record .ensures .answer) in single-tells (walkRecord (the-args .left) (the-args .s .now)) (the-args .s .now) (the-args .at) (the-args .from) (the-args .end) (the-args .left) (the-args .before) (the-pre .1 .0 .ends) f (the-if1 .left) (subst (Within (the-args .end) (the-args .left)) (the-after .given .1) (the-any-record .ensures .within))
+    let f = tree-of (walkRecord (the-args .left) (the-args .s .now) (the-args .from) (the-args .end) (the-args .before)) (sym (the-after .given .1) ∙ the-any-record .ensures .answer) in single-tells (walkRecord (the-args .left) (the-args .s .now)) (the-args .s .now) (the-args .holder) (the-args .from) (the-args .end) (the-args .left) (the-args .before) (the-pre .1 .0 .ends) f (the-if1 .left) (subst (Within (the-args .end) (the-args .left)) (the-after .given .1) (the-any-record .ensures .within))
 
 -- src/walk.rt:234:8
 repeat-sub-if1 : (t : ℕ) → repeat-lts.Need-sub-if1 (repeat-calls t) (repeat-at t) repeat.Post
