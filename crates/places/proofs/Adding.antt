@@ -193,7 +193,7 @@ pub record First (bs : List ℕ) (at stop : ℕ) : Type 0 where
   pub fits : bodyEnd bs at ≤ stop
   pub ends : stop ≤ length bs
   pub short : length bs ≤ 4096
-  pub few : groups tree ≤ 9
+  pub few : groups tree ≤ 10
 
 -- what is summed so far, beside the records from here on, is the sum of all
 pub record Rest (bs : List ℕ) (at stop : ℕ) (all : List Pattern) (p g k : ℕ) : Type 0 where
@@ -219,7 +219,7 @@ adding-none {bs} {at} {stop} m =
     }
 
 -- where records are left there is a first
-first-of : {bs : List ℕ} {from stop p g k : ℕ} {all : List Pattern} → stop ≤ length bs → length bs ≤ 4096 → groupsIn all ≤ 9 → from < stop
+first-of : {bs : List ℕ} {from stop p g k : ℕ} {all : List Pattern} → stop ≤ length bs → length bs ≤ 4096 → groupsIn all ≤ 10 → from < stop
     → Rest bs from stop all p g k → First bs from stop
 first-of {bs} {from} {stop} {g = g} {all = all} ends short few lt r = on (r .records) (r .stand) (r .groups-left)
   where
@@ -243,7 +243,7 @@ first-inside {bs} {at} f =
     }
 
 -- one record more: its places, cut, and its groups are added
-more-rest : {bs : List ℕ} {from stop p g k ip ig ik q : ℕ} {all : List Pattern} → stop ≤ length bs → length bs ≤ 4096 → groupsIn all ≤ 9 → from < stop
+more-rest : {bs : List ℕ} {from stop p g k ip ig ik q : ℕ} {all : List Pattern} → stop ≤ length bs → length bs ≤ 4096 → groupsIn all ≤ 10 → from < stop
     → Counted bs (insideStart (kindAt bs from) (bodyStart from) (bodyEnd bs from)) (bodyEnd bs from) ip ig ik
     → Capped (p + ownPlaces bs (kindAt bs from) (bodyStart from) ip ik) q
     → Rest bs from stop all p g k → Rest bs (bodyEnd bs from) stop all q (g + ownGroups (kindAt bs from) ig) (k + 1)
@@ -320,7 +320,7 @@ module _ {bs : List ℕ} {kind len r : ℕ} (from : ℕ) (ek : kind ≡ kindAt b
   read-own {ip = ip} {ik = ik} f c =
       rw ek (own-asked (f .tree) bs from ip ik (f .stand) (omega arith) (f .short) (c .small) (read-counted c .sums (first-inside f) .records-are))
 
-  pub read-groups : {stop ip ig ik : ℕ} → First bs from stop → Counted bs r (from + 4 + len) ip ig ik → ig ≤ 9
+  pub read-groups : {stop ip ig ik : ℕ} → First bs from stop → Counted bs r (from + 4 + len) ip ig ik → ig ≤ 10
   read-groups f c = omega (arith, read-counted c .sums (first-inside f) .groups-are, held-groups (f .tree))
 
   pub adding-turn : {at stop p g k ip ig ik own q og : ℕ} → Counting bs at stop → Adding bs at stop from p g k → from < stop

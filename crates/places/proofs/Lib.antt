@@ -1,3 +1,8 @@
 -- Facts about plain lists, numbers and trees that the functions' proofs cite.
 pub mod Laying
 pub mod Adding
+pub mod Sizes
+pub mod Entering
+pub mod Views
+pub mod Building
+pub mod Records

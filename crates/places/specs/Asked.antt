@@ -5,7 +5,7 @@ use mathlib.Core.Bool.{Bool, true, false, cond}
 use mathlib.Core.List.{List}
 use lib.Dec.{ltb, eqb}
 use lib.ListN.{length}
-use Rattle.paper.specs.Limits.{patternBytes, patternGroups, patternPlaces, rowCount, repeatCount, noUpperEnd}
+use Rattle.paper.specs.Limits.{patternBytes, patternPlaces, rowCount, repeatCount, noUpperEnd}
 use Rattle.paper.specs.Pattern.{Mode, Upper, Pattern, places, groups, repeatPlaces}
 use Rattle.paper.specs.Check.{numberAt, bodyEnd, repeatHead, upperOf, modeOf}
 use Rattle.paper.specs.Machine.{Core, skip, maybe, star, musts, writtenOut, passFork}
@@ -83,7 +83,7 @@ pub record Counting (bs : List ℕ) (at stop : ℕ) : Type 0 where
   pub stand : Row bs at stop records
   pub ends : stop ≤ length bs
   pub short : length bs ≤ patternBytes
-  pub few : groupsIn records ≤ patternGroups
+  pub few : groupsIn records ≤ rowCount
 
 -- what records add up to
 pub record Summed (records : List Pattern) (p g k : ℕ) : Type 0 where
@@ -108,6 +108,7 @@ pub record One (bs : List ℕ) (at stop base next first n : ℕ) : Type 0 where
   pub tree : Pattern
   pub inside : Inside bs at stop first tree
   pub places-are : n ≡ places tree
+  pub small : n ≤ patternPlaces
   pub room : base + n ≤ mostPlaces
   pub follows : next ≤ mostPlaces
 
@@ -135,6 +136,7 @@ pub record Several (bs : List ℕ) (at stop : ℕ) (forks : Bool) (base next fir
   pub short : length bs ≤ patternBytes
   pub few : first + groupsIn records ≤ rowCount
   pub places-are : n ≡ rowPlaces forks records
+  pub small : n ≤ patternPlaces
   pub room : base + n ≤ mostPlaces
   pub follows : next ≤ mostPlaces
 
@@ -160,6 +162,7 @@ pub record Repeating (bs : List ℕ) (at stop least may : ℕ) (endless : Bool) 
   pub inside : Inside bs at stop first tree
   pub groups-are : g ≡ groups tree
   pub places-are : p ≡ places tree
+  pub small : p ≤ patternPlaces
   pub once : endless ≡ true → may ≤ 1
   pub room : base + passPlaces least may p ≤ mostPlaces
   pub follows : next ≤ mostPlaces
@@ -177,7 +180,6 @@ pub record Repeat (bs : List ℕ) (start stop base next first : ℕ) : Type 0 wh
   pub numbers : Passes bs start least upper mode
   pub inside : Inside bs (start + repeatHead) stop first tree
   pub small : places tree ≤ patternPlaces
-  pub few : groups tree ≤ patternGroups
   pub room : base + repeatPlaces least upper (places tree) ≤ mostPlaces
   pub follows : next ≤ mostPlaces
 

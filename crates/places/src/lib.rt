@@ -143,8 +143,8 @@ fn own_places(pattern: &[u8], kind: usize, start: usize, places: usize, records:
 
 // The groups of a record by its kind and those inside it.
 fn own_groups(kind: usize, groups: usize) -> usize
-    requires { ⌜ groups ≤ 9 ⌝ }
-    ensures { λ r. ⌜ (r ≡ ownGroups kind groups) × (r ≤ 10) ⌝ }
+    requires { ⌜ groups ≤ 10 ⌝ }
+    ensures { λ r. ⌜ (r ≡ ownGroups kind groups) × (r ≤ 11) ⌝ }
 {
     if kind == GROUP { groups + 1 } else { groups }
 }
@@ -172,5 +172,336 @@ pub fn count(pattern: &[u8], at: usize, stop: usize) -> Sums
         places,
         groups,
         records,
+    }
+}
+
+// The fork before an optional pass: greedy prefers the pass, lazy what follows.
+fn pass_fork(table: &mut [u16], x: usize, mode: usize, pass: usize, out: usize)
+    requires { ⌜ (Fitting (now table) x pass out 0) ⌝ }
+    ensures { λ _. ⌜ Forked (now (table .entry)) x mode pass out (now (table .exit)) ⌝ }
+{
+    if mode == 0 {
+        put(table, x, FORK, pass, out, 0);
+    } else {
+        put(table, x, FORK, out, pass, 0);
+    }
+}
+
+// Where the end of an optional pass leads.
+fn pass_end(endless: bool, may: usize, base: usize, after: usize, next: usize) -> usize
+    requires { ⌜ 0 < may ⌝ }
+    ensures { λ r. ⌜ r ≡ cond endless base (entryOf (may - 1) after next) ⌝ }
+{
+    if endless {
+        base
+    } else {
+        entered(may - 1, after, next)
+    }
+}
+
+// A place that stands before one expression, and that expression behind it: an open, or a begin of a pass.
+fn headed(
+    pattern: &[u8],
+    table: &mut [u16],
+    at: usize,
+    stop: usize,
+    kind: u16,
+    a: usize,
+    n: usize,
+    base: usize,
+    next: usize,
+    first: usize,
+    places: usize,
+)
+    requires { ⌜ One (now pattern) at stop (base + 1) next first places ⌝ }
+    requires { ⌜ Head kind a n ⌝ }
+    requires { ⌜ tableRoom ≤ length (now table) ⌝ }
+    ensures { λ _. ⌜ HeadLaid (now (pattern .entry)) at stop kind a n base next first places (now (table .entry)) (now (table .exit)) ⌝ }
+{
+    put(table, base, kind, entered(places, base + 1, next), a, n);
+    if places != 0 {
+        row(
+            pattern,
+            table,
+            at,
+            stop,
+            false,
+            base + 1,
+            next,
+            first,
+            places,
+        );
+    }
+}
+
+// The passes of a repeat: those that must be made, then the optional ones; without an upper end there is one of these, whose end leads back.
+fn passes(
+    pattern: &[u8],
+    table: &mut [u16],
+    at: usize,
+    stop: usize,
+    must: usize,
+    may: usize,
+    endless: bool,
+    mode: usize,
+    base: usize,
+    next: usize,
+    first: usize,
+    groups: usize,
+    places: usize,
+)
+    requires { ⌜ Repeating (now pattern) at stop must may endless base next first groups places ⌝ }
+    requires { ⌜ tableRoom ≤ length (now table) ⌝ }
+    ensures { λ _. ⌜ PassesLaid (now (pattern .entry)) at stop must may endless mode base next first groups places (now (table .entry)) (now (table .exit)) ⌝ }
+{
+    if must != 0 {
+        let after = base + 1 + places;
+        headed(
+            pattern,
+            table,
+            at,
+            stop,
+            BEGIN,
+            first,
+            groups,
+            base,
+            entered(must - 1 + may, after, next),
+            first,
+            places,
+        );
+        passes(
+            pattern,
+            table,
+            at,
+            stop,
+            must - 1,
+            may,
+            endless,
+            mode,
+            after,
+            next,
+            first,
+            groups,
+            places,
+        );
+    } else if may != 0 {
+        let end = base + 1 + 1 + places;
+        pass_fork(table, base, mode, base + 1, next);
+        headed(
+            pattern,
+            table,
+            at,
+            stop,
+            BEGIN_OPTIONAL,
+            first,
+            groups,
+            base + 1,
+            end,
+            first,
+            places,
+        );
+        put(
+            table,
+            end,
+            END,
+            pass_end(endless, may, base, end + 1, next),
+            0,
+            0,
+        );
+        passes(
+            pattern,
+            table,
+            at,
+            stop,
+            0,
+            may - 1,
+            endless,
+            mode,
+            end + 1,
+            next,
+            first,
+            groups,
+            places,
+        );
+    }
+}
+
+// The places of one repeat.
+fn repeated(
+    pattern: &[u8],
+    table: &mut [u16],
+    start: usize,
+    stop: usize,
+    base: usize,
+    next: usize,
+    first: usize,
+)
+    requires { ⌜ Repeat (now pattern) start stop base next first ⌝ }
+    requires { ⌜ tableRoom ≤ length (now table) ⌝ }
+    ensures { λ _. ⌜ RepeatLaid (now (pattern .entry)) start stop base next first (now (table .entry)) (now (table .exit)) ⌝ }
+{
+    let at = start + 6;
+    let least = number_at(pattern, start);
+    let most = number_at(pattern, start + 2);
+    let mode = number_at(pattern, start + 4);
+    let inside = count(pattern, at, stop);
+    if most == NO_END {
+        passes(
+            pattern,
+            table,
+            at,
+            stop,
+            least,
+            1,
+            true,
+            mode,
+            base,
+            next,
+            first,
+            inside.groups,
+            inside.places,
+        );
+    } else {
+        passes(
+            pattern,
+            table,
+            at,
+            stop,
+            least,
+            most - least,
+            false,
+            mode,
+            base,
+            next,
+            first,
+            inside.groups,
+            inside.places,
+        );
+    }
+}
+
+// The places of one record that has some.
+fn one(
+    pattern: &[u8],
+    table: &mut [u16],
+    at: usize,
+    stop: usize,
+    base: usize,
+    next: usize,
+    first: usize,
+    places: usize,
+)
+    requires { ⌜ One (now pattern) at stop base next first places ⌝ }
+    requires { ⌜ tableRoom ≤ length (now table) ⌝ }
+    ensures { λ _. ⌜ OneLaid (now (pattern .entry)) at stop base next first places (now (table .entry)) (now (table .exit)) ⌝ }
+{
+    let kind = number_at(pattern, at + 2);
+    let start = at + 4;
+    if places == 0 {} else if kind == NOTHING {
+        put(table, base, STOP, 0, 0, 0);
+    } else if kind == BYTES {
+        put(table, base, SET, next, start, (stop - start) / 2);
+    } else if kind == GROUP {
+        let close = base + 1 + (places - 2);
+        headed(
+            pattern,
+            table,
+            start,
+            stop,
+            OPEN,
+            first,
+            0,
+            base,
+            close,
+            first + 1,
+            places - 2,
+        );
+        put(table, close, CLOSE, next, first, 0);
+    } else if kind == REPEAT {
+        repeated(pattern, table, start, stop, base, next, first);
+    } else {
+        row(
+            pattern,
+            table,
+            start,
+            stop,
+            kind == ALTERNATION,
+            base,
+            next,
+            first,
+            places,
+        );
+    }
+}
+
+// The places of records that stand one after another: of a sequence each leads to the next, of an alternation a fork stands before each but the last.
+fn row(
+    pattern: &[u8],
+    table: &mut [u16],
+    at: usize,
+    stop: usize,
+    forks: bool,
+    base: usize,
+    next: usize,
+    first: usize,
+    places: usize,
+)
+    requires { ⌜ Several (now pattern) at stop forks base next first places ⌝ }
+    requires { ⌜ tableRoom ≤ length (now table) ⌝ }
+    ensures { λ _. ⌜ SeveralLaid (now (pattern .entry)) at stop forks base next first places (now (table .entry)) (now (table .exit)) ⌝ }
+{
+    let end = at + 4 + number_at(pattern, at);
+    if end == stop {
+        one(pattern, table, at, stop, base, next, first, places);
+    } else {
+        let own = count(pattern, at, end);
+        if forks {
+            let second = base + 1 + own.places;
+            let rest = places - 1 - own.places;
+            put(
+                table,
+                base,
+                FORK,
+                entered(own.places, base + 1, next),
+                entered(rest, second, next),
+                0,
+            );
+            one(pattern, table, at, end, base + 1, next, first, own.places);
+            row(
+                pattern,
+                table,
+                end,
+                stop,
+                true,
+                second,
+                next,
+                first + own.groups,
+                rest,
+            );
+        } else {
+            let second = base + own.places;
+            let rest = places - own.places;
+            one(
+                pattern,
+                table,
+                at,
+                end,
+                base,
+                entered(rest, second, next),
+                first,
+                own.places,
+            );
+            row(
+                pattern,
+                table,
+                end,
+                stop,
+                false,
+                second,
+                next,
+                first + own.groups,
+                rest,
+            );
+        }
     }
 }

@@ -1,0 +1,985 @@
+-- The cycle of building: `row` calls `one` for each record, `one` what its kind needs, and those `row` again on the records inside.
+-- The bytes between the two offsets fall, and passes over the same bytes fall in number.
+use borrow.Author.Needs.{needs}
+use Prim.Native.Nat.{ℕ, _+_, _-_, _*_, _<_}
+use mathlib.Core.Path.{_≡_, ap, _∙_}
+use native.Mathlib.Omega.{arith}
+use Rattle.places.proofs.Adding.{row-long}
+use Rattle.places.proofs.Entering.{entry-small, end-small, places-must, places-may, passes-count, at-least-one}
+use Rattle.places.proofs.Building.{single, head-fits, head-row, head-alone, pass-head, must-one, must-rest, must-laid, may-one, may-rest, may-laid, none-laid}
+use Rattle.places.proofs.Records.{repeat-counting, endless-ask, bounded-counts, bounded-ask, endless-laid, bounded-laid, nothing-to-lay, stop-laid, set-laid, group-one, group-two, group-laid, repeat-ask, repeat-laid, row-ask, row-laid, row-header, last-one, last-laid, more-counting, more-few, fork-sum, fork-one, fork-rest, fork-laid, chain-sum, chain-one, chain-rest, chain-laid}
+use borrow.Fn.Kinds.{In}
+use borrow.Fn.PlainCycle.{Measures, is, falls, and}
+use Rattle.places.proofs.headed.Reads as headed
+use Rattle.places.proofs.headed.Kinds as headed-kinds
+use Rattle.places.proofs.+headed+one+passes+repeated+row.Lts-headed as headed-lts
+use Rattle.places.proofs.one.Reads as one
+use Rattle.places.proofs.one.Kinds as one-kinds
+use Rattle.places.proofs.+headed+one+passes+repeated+row.Lts-one as one-lts
+use Rattle.places.proofs.passes.Reads as passes
+use Rattle.places.proofs.passes.Kinds as passes-kinds
+use Rattle.places.proofs.+headed+one+passes+repeated+row.Lts-passes as passes-lts
+use Rattle.places.proofs.repeated.Reads as repeated
+use Rattle.places.proofs.repeated.Kinds as repeated-kinds
+use Rattle.places.proofs.+headed+one+passes+repeated+row.Lts-repeated as repeated-lts
+use Rattle.places.proofs.row.Reads as row
+use Rattle.places.proofs.row.Kinds as row-kinds
+use Rattle.places.proofs.+headed+one+passes+repeated+row.Lts-row as row-lts
+use Rattle.places.proofs.count.Reads as count-reads
+use Rattle.places.proofs.entered.Reads as entered-reads
+use Rattle.places.proofs.pass_end.Reads as pass-end-reads
+use Rattle.places.proofs.pass_fork.Reads as pass-fork-reads
+use Rattle.places.proofs.put.Reads as put-reads
+use Rattle.records.proofs.number_at.Reads as number-at-reads
+use Rattle.places.proofs.+headed+one+passes+repeated+row.{statement}
+use Rattle.places.proofs.+headed+one+passes+repeated+row.Tie.{close}
+
+abbrev μ-headed : Measures 2 headed-kinds.ps ℕ
+μ-headed κs a = 1024 * (a .1 .1 .1 .0 - a .1 .1 .0) + 2
+
+abbrev μ-one : Measures 2 one-kinds.ps ℕ
+μ-one κs a = 1024 * (a .1 .1 .1 .0 - a .1 .1 .0)
+
+abbrev μ-passes : Measures 2 passes-kinds.ps ℕ
+μ-passes κs a = 1024 * (a .1 .1 .1 .0 - a .1 .1 .0) + 3 + a .1 .1 .1 .1 .0 + a .1 .1 .1 .1 .1 .0
+
+abbrev μ-repeated : Measures 2 repeated-kinds.ps ℕ
+μ-repeated κs a = 1024 * (a .1 .1 .1 .0 - a .1 .1 .0) + 1000
+
+abbrev μ-row : Measures 2 row-kinds.ps ℕ
+μ-row κs a = 1024 * (a .1 .1 .1 .0 - a .1 .1 .0) + 1
+
+abbrev headed-at : ℕ → In 2 headed-kinds.ps
+headed-at t = and 2 headed-kinds.ps (is 2 headed-kinds.ps μ-headed t) headed.Pre
+
+abbrev headed-below : ℕ → In 2 headed-kinds.ps
+headed-below t = and 2 headed-kinds.ps (falls 2 headed-kinds.ps _<_ μ-headed t) headed.Pre
+
+abbrev one-at : ℕ → In 2 one-kinds.ps
+one-at t = and 2 one-kinds.ps (is 2 one-kinds.ps μ-one t) one.Pre
+
+abbrev one-below : ℕ → In 2 one-kinds.ps
+one-below t = and 2 one-kinds.ps (falls 2 one-kinds.ps _<_ μ-one t) one.Pre
+
+abbrev passes-at : ℕ → In 2 passes-kinds.ps
+passes-at t = and 2 passes-kinds.ps (is 2 passes-kinds.ps μ-passes t) passes.Pre
+
+abbrev passes-below : ℕ → In 2 passes-kinds.ps
+passes-below t = and 2 passes-kinds.ps (falls 2 passes-kinds.ps _<_ μ-passes t) passes.Pre
+
+abbrev repeated-at : ℕ → In 2 repeated-kinds.ps
+repeated-at t = and 2 repeated-kinds.ps (is 2 repeated-kinds.ps μ-repeated t) repeated.Pre
+
+abbrev repeated-below : ℕ → In 2 repeated-kinds.ps
+repeated-below t =
+    and 2 repeated-kinds.ps (falls 2 repeated-kinds.ps _<_ μ-repeated t) repeated.Pre
+
+abbrev row-at : ℕ → In 2 row-kinds.ps
+row-at t = and 2 row-kinds.ps (is 2 row-kinds.ps μ-row t) row.Pre
+
+abbrev row-below : ℕ → In 2 row-kinds.ps
+row-below t = and 2 row-kinds.ps (falls 2 row-kinds.ps _<_ μ-row t) row.Pre
+
+abbrev headed-calls : ℕ → headed-lts.Claims
+headed-calls t = (entered-reads.Asked, entered-reads.Learnt, put-reads.Asked, put-reads.Learnt, row-below t, row.Post)
+
+headed-add-entered : (t : ℕ) → headed-lts.Need-add-entered (headed-calls t) (headed-at t) headed.Post
+headed-add-entered t c =
+    let the-pre = c .before .before .before .pre in
+    omega (arith, (the-pre .1 .0) .room)
+
+headed-entered-requires : (t : ℕ) → headed-lts.Need-entered-requires (headed-calls t) (headed-at t) headed.Post
+headed-entered-requires t c κs = search needs
+
+headed-put-requires : (t : ℕ) → headed-lts.Need-put-requires (headed-calls t) (headed-at t) headed.Post
+headed-put-requires t c κs =
+    let the-pre = c .before .before .before .before .pre in
+    let the-entered = c .entered in
+    head-fits (the-pre .1 .0) (the-pre .1 .1 .0) (the-pre .1 .1 .1) (the-entered .ensures)
+
+headed-add-row : (t : ℕ) → headed-lts.Need-add-row (headed-calls t) (headed-at t) headed.Post
+headed-add-row t c =
+    let the-pre = c .before .before .before .before .before .before .before .before .before .pre in
+    omega (arith, (the-pre .1 .0) .room)
+
+headed-row-requires : (t : ℕ) → headed-lts.Need-row-requires (headed-calls t) (headed-at t) headed.Post
+headed-row-requires t c κs =
+    let the-pre = c .before .before .before .before .before .before .before .before .before .pre in
+    let the-put = c .before .before .before .before .put in
+    (omega (arith, the-pre .0), (single (the-pre .1 .0), omega (arith, the-put .ensures .kept .same-length, the-pre .1 .1 .1)))
+
+headed-same-length : (t : ℕ) → headed-lts.Need-same-length (headed-calls t) (headed-at t) headed.Post
+headed-same-length t c =
+    let the-row = c .before .before .row in
+    let the-put = c .before .before .before .before .before .before .before .put in
+    the-row .ensures .kept .same-length ∙ the-put .ensures .kept .same-length
+
+headed-returns : (t : ℕ) → headed-lts.Need-returns (headed-calls t) (headed-at t) headed.Post
+headed-returns t c =
+    let the-entered = c .before .before .before .before .before .before .before .before .entered in
+    let the-pre = c .before .before .before .before .before .before .before .before .before .before .before .before .pre in
+    let the-put = c .before .before .before .before .before .before .before .put in
+    let the-row = c .before .before .row in
+    head-row (the-entered .ensures) (the-pre .1 .1 .0) (the-put .ensures) (the-row .ensures)
+
+headed-same-length-2 : (t : ℕ) → headed-lts.Need-same-length-2 (headed-calls t) (headed-at t) headed.Post
+headed-same-length-2 t c =
+    let the-put = c .before .before .before .put in
+    the-put .ensures .kept .same-length
+
+headed-returns-2 : (t : ℕ) → headed-lts.Need-returns-2 (headed-calls t) (headed-at t) headed.Post
+headed-returns-2 t c =
+    let the-entered = c .before .before .before .before .entered in
+    let the-pre = c .before .before .before .before .before .before .before .before .pre in
+    let the-put = c .before .before .before .put in
+    let the-if1 = c .if1 in
+    head-alone (the-entered .ensures) (the-pre .1 .1 .0) (the-put .ensures) (the-if1 .left)
+
+abbrev one-calls : ℕ → one-lts.Claims
+one-calls t = (number-at-reads.Asked, number-at-reads.Learnt, put-reads.Asked, put-reads.Learnt, headed-below t, headed.Post, repeated-below t, repeated.Post, row-below t, row.Post)
+
+one-add-number-at : (t : ℕ) → one-lts.Need-add-number-at (one-calls t) (one-at t) one.Post
+one-add-number-at t c =
+    let the-pre = c .before .before .pre in
+    omega (arith, (the-pre .1 .0) .inside .end-is, (the-pre .1 .0) .inside .ends, (the-pre .1 .0) .inside .short)
+
+one-number-at-requires : (t : ℕ) → one-lts.Need-number-at-requires (one-calls t) (one-at t) one.Post
+one-number-at-requires t c κs =
+    let the-pre = c .before .before .pre in
+    omega (arith, (the-pre .1 .0) .inside .end-is, (the-pre .1 .0) .inside .ends, (the-pre .1 .0) .inside .short)
+
+one-add-start : (t : ℕ) → one-lts.Need-add-start (one-calls t) (one-at t) one.Post
+one-add-start t c =
+    let the-pre = c .before .before .before .pre in
+    omega (arith, (the-pre .1 .0) .inside .end-is, (the-pre .1 .0) .inside .ends, (the-pre .1 .0) .inside .short)
+
+one-put-requires : (t : ℕ) → one-lts.Need-put-requires (one-calls t) (one-at t) one.Post
+one-put-requires t c κs =
+    let the-if1 = c .before .before .if1 in
+    let the-pre = c .before .before .before .before .before .before .pre in
+    record { room = omega (arith, at-least-one (the-if1 .left), (the-pre .1 .0) .room, the-pre .1 .1); next-fits = omega arith; a-fits = omega arith; n-fits = omega arith }
+
+one-sub-put : (t : ℕ) → one-lts.Need-sub-put (one-calls t) (one-at t) one.Post
+one-sub-put t c =
+    let the-pre = c .before .before .before .before .before .before .before .pre in
+    omega (arith, (the-pre .1 .0) .inside .end-is, (the-pre .1 .0) .inside .ends, (the-pre .1 .0) .inside .short)
+
+one-put-requires-2 : (t : ℕ) → one-lts.Need-put-requires-2 (one-calls t) (one-at t) one.Post
+one-put-requires-2 t c κs =
+    let the-if1 = c .before .before .before .if1 in
+    let the-pre = c .before .before .before .before .before .before .before .pre in
+    record { room = omega (arith, at-least-one (the-if1 .left), (the-pre .1 .0) .room, the-pre .1 .1); next-fits = omega (arith, (the-pre .1 .0) .follows); a-fits = omega (arith, (the-pre .1 .0) .inside .end-is, (the-pre .1 .0) .inside .ends, (the-pre .1 .0) .inside .short); n-fits = omega (arith, (the-pre .1 .0) .inside .end-is, (the-pre .1 .0) .inside .ends, (the-pre .1 .0) .inside .short) }
+
+one-add-close : (t : ℕ) → one-lts.Need-add-close (one-calls t) (one-at t) one.Post
+one-add-close t c =
+    let the-pre = c .before .before .before .before .before .before .before .pre in
+    let the-number-at = c .before .before .before .before .number-at in
+    let the-if4 = c .if4 in
+    omega (arith, (the-pre .1 .0) .room, group-two (the-pre .1 .0) (the-number-at .ensures .0) (the-if4 .taken))
+
+one-sub-close : (t : ℕ) → one-lts.Need-sub-close (one-calls t) (one-at t) one.Post
+one-sub-close t c =
+    let the-pre = c .before .before .before .before .before .before .before .pre in
+    let the-number-at = c .before .before .before .before .number-at in
+    let the-if4 = c .if4 in
+    group-two (the-pre .1 .0) (the-number-at .ensures .0) (the-if4 .taken)
+
+one-add-close-2 : (t : ℕ) → one-lts.Need-add-close-2 (one-calls t) (one-at t) one.Post
+one-add-close-2 t c =
+    let the-pre = c .before .before .before .before .before .before .before .pre in
+    let the-number-at = c .before .before .before .before .number-at in
+    let the-if4 = c .if4 in
+    omega (arith, (the-pre .1 .0) .room, group-two (the-pre .1 .0) (the-number-at .ensures .0) (the-if4 .taken))
+
+one-add-headed : (t : ℕ) → one-lts.Need-add-headed (one-calls t) (one-at t) one.Post
+one-add-headed t c =
+    let the-pre = c .before .before .before .before .before .before .before .before .pre in
+    omega (arith, (the-pre .1 .0) .inside .few)
+
+one-sub-headed : (t : ℕ) → one-lts.Need-sub-headed (one-calls t) (one-at t) one.Post
+one-sub-headed t c =
+    let the-pre = c .before .before .before .before .before .before .before .before .pre in
+    let the-number-at = c .before .before .before .before .before .number-at in
+    let the-if4 = c .before .if4 in
+    group-two (the-pre .1 .0) (the-number-at .ensures .0) (the-if4 .taken)
+
+one-headed-requires : (t : ℕ) → one-lts.Need-headed-requires (one-calls t) (one-at t) one.Post
+one-headed-requires t c κs =
+    let the-pre = c .before .before .before .before .before .before .before .before .pre in
+    let the-number-at = c .before .before .before .before .before .number-at in
+    let the-if4 = c .before .if4 in
+    (omega (arith, the-pre .0, (the-pre .1 .0) .inside .end-is, (the-pre .1 .0) .inside .ends, (the-pre .1 .0) .inside .short), (group-one (the-pre .1 .0) (the-number-at .ensures .0) (the-if4 .taken), (record { no-set = omega arith; a-small = omega (arith, (the-pre .1 .0) .inside .few); n-small = omega arith }, the-pre .1 .1)))
+
+one-put-requires-3 : (t : ℕ) → one-lts.Need-put-requires-3 (one-calls t) (one-at t) one.Post
+one-put-requires-3 t c κs =
+    let the-pre = c .before .before .before .before .before .before .before .before .before .before .before .before .pre in
+    let the-number-at = c .before .before .before .before .before .before .before .before .before .number-at in
+    let the-if4 = c .before .before .before .before .before .if4 in
+    let the-headed = c .before .before .before .headed in
+    record { room = omega (arith, (the-pre .1 .0) .room, group-two (the-pre .1 .0) (the-number-at .ensures .0) (the-if4 .taken), the-headed .ensures .kept .same-length, the-pre .1 .1); next-fits = omega (arith, (the-pre .1 .0) .follows); a-fits = omega (arith, (the-pre .1 .0) .inside .few); n-fits = omega arith }
+
+one-repeated-requires : (t : ℕ) → one-lts.Need-repeated-requires (one-calls t) (one-at t) one.Post
+one-repeated-requires t c κs =
+    let the-pre = c .before .before .before .before .before .before .before .before .before .pre in
+    let the-if1 = c .before .before .before .before .before .if1 in
+    let the-number-at = c .before .before .before .before .before .before .number-at in
+    let the-if5 = c .before .if5 in
+    (omega (arith, the-pre .0, (the-pre .1 .0) .inside .end-is, (the-pre .1 .0) .inside .ends, (the-pre .1 .0) .inside .short), (repeat-ask (the-pre .1 .0) (the-if1 .left) (the-number-at .ensures .0) (the-if5 .taken), the-pre .1 .1))
+
+one-row-requires : (t : ℕ) → one-lts.Need-row-requires (one-calls t) (one-at t) one.Post
+one-row-requires t c κs =
+    let the-pre = c .before .before .before .before .before .before .before .before .before .pre in
+    let the-if1 = c .before .before .before .before .before .if1 in
+    let the-number-at = c .before .before .before .before .before .before .number-at in
+    let the-if2 = c .before .before .before .before .if2 in
+    let the-if3 = c .before .before .before .if3 in
+    let the-if4 = c .before .before .if4 in
+    let the-if5 = c .before .if5 in
+    (omega (arith, the-pre .0, (the-pre .1 .0) .inside .end-is, (the-pre .1 .0) .inside .ends, (the-pre .1 .0) .inside .short), (row-ask (the-if1 .left) (the-number-at .ensures .0) (the-if2 .left) (the-if3 .left) (the-if4 .left) (the-if5 .left) (the-pre .1 .0), the-pre .1 .1))
+
+one-returns : (t : ℕ) → one-lts.Need-returns (one-calls t) (one-at t) one.Post
+one-returns t c =
+    let the-if1 = c .if1 in
+    nothing-to-lay (the-if1 .taken)
+
+one-same-length : (t : ℕ) → one-lts.Need-same-length (one-calls t) (one-at t) one.Post
+one-same-length t c =
+    let the-put = c .before .before .put in
+    the-put .ensures .kept .same-length
+
+one-returns-2 : (t : ℕ) → one-lts.Need-returns-2 (one-calls t) (one-at t) one.Post
+one-returns-2 t c =
+    let the-if1 = c .before .before .before .before .before .if1 in
+    let the-number-at = c .before .before .before .before .before .before .number-at in
+    let the-if2 = c .before .before .before .before .if2 in
+    let the-put = c .before .before .put in
+    stop-laid (the-if1 .left) (the-number-at .ensures .0) (the-if2 .taken) (the-put .ensures)
+
+one-same-length-2 : (t : ℕ) → one-lts.Need-same-length-2 (one-calls t) (one-at t) one.Post
+one-same-length-2 t c =
+    let the-put2 = c .before .before .put2 in
+    the-put2 .ensures .kept .same-length
+
+one-returns-3 : (t : ℕ) → one-lts.Need-returns-3 (one-calls t) (one-at t) one.Post
+one-returns-3 t c =
+    let the-pre = c .before .before .before .before .before .before .before .before .before .before .pre in
+    let the-if1 = c .before .before .before .before .before .before .if1 in
+    let the-number-at = c .before .before .before .before .before .before .before .number-at in
+    let the-if3 = c .before .before .before .before .if3 in
+    let the-put2 = c .before .before .put2 in
+    set-laid (the-pre .1 .0) (the-if1 .left) (the-number-at .ensures .0) (the-if3 .taken) (the-put2 .ensures)
+
+one-same-length-3 : (t : ℕ) → one-lts.Need-same-length-3 (one-calls t) (one-at t) one.Post
+one-same-length-3 t c =
+    let the-put3 = c .before .before .put3 in
+    let the-headed = c .before .before .before .before .before .before .headed in
+    the-put3 .ensures .kept .same-length ∙ the-headed .ensures .kept .same-length
+
+one-returns-4 : (t : ℕ) → one-lts.Need-returns-4 (one-calls t) (one-at t) one.Post
+one-returns-4 t c =
+    let the-pre = c .before .before .before .before .before .before .before .before .before .before .before .before .before .before .before .pre in
+    let the-number-at = c .before .before .before .before .before .before .before .before .before .before .before .before .number-at in
+    let the-if4 = c .before .before .before .before .before .before .before .before .if4 in
+    let the-headed = c .before .before .before .before .before .before .headed in
+    let the-put3 = c .before .before .put3 in
+    group-laid (the-pre .1 .0) (the-number-at .ensures .0) (the-if4 .taken) (the-headed .ensures) (the-put3 .ensures)
+
+one-same-length-4 : (t : ℕ) → one-lts.Need-same-length-4 (one-calls t) (one-at t) one.Post
+one-same-length-4 t c =
+    let the-repeated = c .before .before .repeated in
+    let the-pre = c .before .before .before .before .before .before .before .before .before .before .before .before .pre in
+    let the-if1 = c .before .before .before .before .before .before .before .before .if1 in
+    let the-number-at = c .before .before .before .before .before .before .before .before .before .number-at in
+    let the-if5 = c .before .before .before .before .if5 in
+    the-repeated .ensures .kept (repeat-ask (the-pre .1 .0) (the-if1 .left) (the-number-at .ensures .0) (the-if5 .taken)) .same-length
+
+one-returns-5 : (t : ℕ) → one-lts.Need-returns-5 (one-calls t) (one-at t) one.Post
+one-returns-5 t c =
+    let the-pre = c .before .before .before .before .before .before .before .before .before .before .before .before .pre in
+    let the-if1 = c .before .before .before .before .before .before .before .before .if1 in
+    let the-number-at = c .before .before .before .before .before .before .before .before .before .number-at in
+    let the-if5 = c .before .before .before .before .if5 in
+    let the-repeated = c .before .before .repeated in
+    repeat-laid (the-pre .1 .0) (the-if1 .left) (the-number-at .ensures .0) (the-if5 .taken) (the-repeated .ensures)
+
+one-same-length-5 : (t : ℕ) → one-lts.Need-same-length-5 (one-calls t) (one-at t) one.Post
+one-same-length-5 t c =
+    let the-row = c .before .before .row in
+    the-row .ensures .kept .same-length
+
+one-returns-6 : (t : ℕ) → one-lts.Need-returns-6 (one-calls t) (one-at t) one.Post
+one-returns-6 t c =
+    let the-if1 = c .before .before .before .before .before .before .before .before .if1 in
+    let the-number-at = c .before .before .before .before .before .before .before .before .before .number-at in
+    let the-if2 = c .before .before .before .before .before .before .before .if2 in
+    let the-if3 = c .before .before .before .before .before .before .if3 in
+    let the-if4 = c .before .before .before .before .before .if4 in
+    let the-if5 = c .before .before .before .before .if5 in
+    let the-row = c .before .before .row in
+    row-laid (the-if1 .left) (the-number-at .ensures .0) (the-if2 .left) (the-if3 .left) (the-if4 .left) (the-if5 .left) (the-row .ensures)
+
+abbrev passes-calls : ℕ → passes-lts.Claims
+passes-calls t = (entered-reads.Asked, entered-reads.Learnt, headed-below t, headed.Post, passes-below t, passes.Post, pass-fork-reads.Asked, pass-fork-reads.Learnt, pass-end-reads.Asked, pass-end-reads.Learnt, put-reads.Asked, put-reads.Learnt)
+
+passes-add-after : (t : ℕ) → passes-lts.Need-add-after (passes-calls t) (passes-at t) passes.Post
+passes-add-after t c =
+    let the-pre = c .before .before .before .pre in
+    let the-args = c .before .before .before .args in
+    let the-if1 = c .if1 in
+    omega (arith, (the-pre .1 .0) .room, places-must (the-args .must) (the-args .may) (the-args .places) (the-if1 .taken))
+
+passes-add-after-2 : (t : ℕ) → passes-lts.Need-add-after-2 (passes-calls t) (passes-at t) passes.Post
+passes-add-after-2 t c =
+    let the-pre = c .before .before .before .pre in
+    let the-args = c .before .before .before .args in
+    let the-if1 = c .if1 in
+    omega (arith, (the-pre .1 .0) .room, places-must (the-args .must) (the-args .may) (the-args .places) (the-if1 .taken))
+
+passes-sub-entered : (t : ℕ) → passes-lts.Need-sub-entered (passes-calls t) (passes-at t) passes.Post
+passes-sub-entered t c =
+    let the-if1 = c .before .if1 in
+    at-least-one (the-if1 .taken)
+
+passes-add-entered : (t : ℕ) → passes-lts.Need-add-entered (passes-calls t) (passes-at t) passes.Post
+passes-add-entered t c =
+    let the-pre = c .before .before .before .before .pre in
+    let the-args = c .before .before .before .before .args in
+    let the-if1 = c .before .if1 in
+    omega (arith, (the-pre .1 .0) .room, passes-count (the-args .must) (the-args .may) (the-args .places), at-least-one (the-if1 .taken))
+
+passes-entered-requires : (t : ℕ) → passes-lts.Need-entered-requires (passes-calls t) (passes-at t) passes.Post
+passes-entered-requires t c κs = search needs
+
+passes-headed-requires : (t : ℕ) → passes-lts.Need-headed-requires (passes-calls t) (passes-at t) passes.Post
+passes-headed-requires t c κs =
+    let the-pre = c .before .before .before .before .before .pre in
+    let the-entered = c .entered in
+    let the-if1 = c .before .before .if1 in
+    (omega (arith, the-pre .0), (must-one (the-entered .result) (the-pre .1 .0) (the-if1 .taken) (the-entered .ensures), (pass-head 3 (the-pre .1 .0) (omega arith), the-pre .1 .1)))
+
+passes-sub-passes : (t : ℕ) → passes-lts.Need-sub-passes (passes-calls t) (passes-at t) passes.Post
+passes-sub-passes t c =
+    let the-if1 = c .before .before .before .before .before .before .if1 in
+    at-least-one (the-if1 .taken)
+
+passes-passes-requires : (t : ℕ) → passes-lts.Need-passes-requires (passes-calls t) (passes-at t) passes.Post
+passes-passes-requires t c κs =
+    let the-pre = c .before .before .before .before .before .before .before .before .before .pre in
+    let the-if1 = c .before .before .before .before .before .before .if1 in
+    let the-headed = c .before .before .before .headed in
+    (omega (arith, the-pre .0, at-least-one (the-if1 .taken)), (must-rest (the-pre .1 .0) (the-if1 .taken), omega (arith, the-headed .ensures .kept .same-length, the-pre .1 .1)))
+
+passes-add-end : (t : ℕ) → passes-lts.Need-add-end (passes-calls t) (passes-at t) passes.Post
+passes-add-end t c =
+    let the-pre = c .before .before .before .before .pre in
+    let the-args = c .before .before .before .before .args in
+    let the-if1 = c .before .if1 in
+    let the-if2 = c .if2 in
+    omega (arith, (the-pre .1 .0) .room, places-may (the-args .must) (the-args .may) (the-args .places) (the-if1 .left) (the-if2 .taken))
+
+passes-add-end-2 : (t : ℕ) → passes-lts.Need-add-end-2 (passes-calls t) (passes-at t) passes.Post
+passes-add-end-2 t c =
+    let the-pre = c .before .before .before .before .pre in
+    let the-args = c .before .before .before .before .args in
+    let the-if1 = c .before .if1 in
+    let the-if2 = c .if2 in
+    omega (arith, (the-pre .1 .0) .room, places-may (the-args .must) (the-args .may) (the-args .places) (the-if1 .left) (the-if2 .taken))
+
+passes-add-end-3 : (t : ℕ) → passes-lts.Need-add-end-3 (passes-calls t) (passes-at t) passes.Post
+passes-add-end-3 t c =
+    let the-pre = c .before .before .before .before .pre in
+    let the-args = c .before .before .before .before .args in
+    let the-if1 = c .before .if1 in
+    let the-if2 = c .if2 in
+    omega (arith, (the-pre .1 .0) .room, places-may (the-args .must) (the-args .may) (the-args .places) (the-if1 .left) (the-if2 .taken))
+
+passes-add-pass-fork : (t : ℕ) → passes-lts.Need-add-pass-fork (passes-calls t) (passes-at t) passes.Post
+passes-add-pass-fork t c =
+    let the-pre = c .before .before .before .before .before .pre in
+    let the-args = c .before .before .before .before .before .args in
+    let the-if1 = c .before .before .if1 in
+    let the-if2 = c .before .if2 in
+    omega (arith, (the-pre .1 .0) .room, places-may (the-args .must) (the-args .may) (the-args .places) (the-if1 .left) (the-if2 .taken))
+
+passes-pass-fork-requires : (t : ℕ) → passes-lts.Need-pass-fork-requires (passes-calls t) (passes-at t) passes.Post
+passes-pass-fork-requires t c κs =
+    let the-pre = c .before .before .before .before .before .pre in
+    let the-args = c .before .before .before .before .before .args in
+    let the-if1 = c .before .before .if1 in
+    let the-if2 = c .before .if2 in
+    record { room = omega (arith, the-pre .1 .1, (the-pre .1 .0) .room, places-may (the-args .must) (the-args .may) (the-args .places) (the-if1 .left) (the-if2 .taken)); next-fits = omega (arith, (the-pre .1 .0) .room, places-may (the-args .must) (the-args .may) (the-args .places) (the-if1 .left) (the-if2 .taken)); a-fits = omega (arith, (the-pre .1 .0) .follows); n-fits = omega arith }
+
+passes-add-headed : (t : ℕ) → passes-lts.Need-add-headed (passes-calls t) (passes-at t) passes.Post
+passes-add-headed t c =
+    let the-pre = c .before .before .before .before .before .before .before .before .before .pre in
+    let the-args = c .before .before .before .before .before .before .before .before .before .args in
+    let the-if1 = c .before .before .before .before .before .before .if1 in
+    let the-if2 = c .before .before .before .before .before .if2 in
+    omega (arith, (the-pre .1 .0) .room, places-may (the-args .must) (the-args .may) (the-args .places) (the-if1 .left) (the-if2 .taken))
+
+passes-headed-requires-2 : (t : ℕ) → passes-lts.Need-headed-requires-2 (passes-calls t) (passes-at t) passes.Post
+passes-headed-requires-2 t c κs =
+    let the-pre = c .before .before .before .before .before .before .before .before .before .pre in
+    let the-if1 = c .before .before .before .before .before .before .if1 in
+    let the-if2 = c .before .before .before .before .before .if2 in
+    let the-pass-fork = c .before .before .before .pass-fork in
+    (omega (arith, the-pre .0), (may-one (the-pre .1 .0) (the-if1 .left) (the-if2 .taken), (pass-head 4 (the-pre .1 .0) (omega arith), omega (arith, the-pass-fork .ensures .kept .same-length, the-pre .1 .1))))
+
+passes-add-pass-end : (t : ℕ) → passes-lts.Need-add-pass-end (passes-calls t) (passes-at t) passes.Post
+passes-add-pass-end t c =
+    let the-pre = c .before .before .before .before .before .before .before .before .before .before .before .before .before .pre in
+    let the-args = c .before .before .before .before .before .before .before .before .before .before .before .before .before .args in
+    let the-if1 = c .before .before .before .before .before .before .before .before .before .before .if1 in
+    let the-if2 = c .before .before .before .before .before .before .before .before .before .if2 in
+    omega (arith, (the-pre .1 .0) .room, places-may (the-args .must) (the-args .may) (the-args .places) (the-if1 .left) (the-if2 .taken))
+
+passes-pass-end-requires : (t : ℕ) → passes-lts.Need-pass-end-requires (passes-calls t) (passes-at t) passes.Post
+passes-pass-end-requires t c κs =
+    let the-if2 = c .before .before .before .before .before .before .before .before .before .if2 in
+    at-least-one (the-if2 .taken)
+
+passes-put-requires : (t : ℕ) → passes-lts.Need-put-requires (passes-calls t) (passes-at t) passes.Post
+passes-put-requires t c κs =
+    let the-pre = c .before .before .before .before .before .before .before .before .before .before .before .before .before .before .pre in
+    let the-args = c .before .before .before .before .before .before .before .before .before .before .before .before .before .before .args in
+    let the-if1 = c .before .before .before .before .before .before .before .before .before .before .before .if1 in
+    let the-if2 = c .before .before .before .before .before .before .before .before .before .before .if2 in
+    let the-pass-fork = c .before .before .before .before .before .before .before .before .pass-fork in
+    let the-headed2 = c .before .before .before .before .headed2 in
+    let the-pass-end = c .pass-end in
+    record { room = omega (arith, the-pre .1 .1, (the-pre .1 .0) .room, places-may (the-args .must) (the-args .may) (the-args .places) (the-if1 .left) (the-if2 .taken), the-pass-fork .ensures .kept .same-length, the-headed2 .ensures .kept .same-length); next-fits = omega (arith, the-pass-end .ensures, end-small (the-args .endless) (the-args .may - 1) (the-args .base) (the-args .base + 1 + 1 + the-args .places + 1) (the-args .next) {most = 65535} (omega (arith, (the-pre .1 .0) .room, places-may (the-args .must) (the-args .may) (the-args .places) (the-if1 .left) (the-if2 .taken))) (omega (arith, (the-pre .1 .0) .room, places-may (the-args .must) (the-args .may) (the-args .places) (the-if1 .left) (the-if2 .taken))) (omega (arith, (the-pre .1 .0) .follows))); a-fits = omega arith; n-fits = omega arith }
+
+passes-sub-passes-2 : (t : ℕ) → passes-lts.Need-sub-passes-2 (passes-calls t) (passes-at t) passes.Post
+passes-sub-passes-2 t c =
+    let the-if2 = c .before .before .before .before .before .before .before .before .before .before .before .before .before .before .if2 in
+    at-least-one (the-if2 .taken)
+
+passes-add-passes : (t : ℕ) → passes-lts.Need-add-passes (passes-calls t) (passes-at t) passes.Post
+passes-add-passes t c =
+    let the-pre = c .before .before .before .before .before .before .before .before .before .before .before .before .before .before .before .before .before .before .pre in
+    let the-args = c .before .before .before .before .before .before .before .before .before .before .before .before .before .before .before .before .before .before .args in
+    let the-if1 = c .before .before .before .before .before .before .before .before .before .before .before .before .before .before .before .if1 in
+    let the-if2 = c .before .before .before .before .before .before .before .before .before .before .before .before .before .before .if2 in
+    omega (arith, (the-pre .1 .0) .room, places-may (the-args .must) (the-args .may) (the-args .places) (the-if1 .left) (the-if2 .taken))
+
+passes-passes-requires-2 : (t : ℕ) → passes-lts.Need-passes-requires-2 (passes-calls t) (passes-at t) passes.Post
+passes-passes-requires-2 t c κs =
+    let the-pre = c .before .before .before .before .before .before .before .before .before .before .before .before .before .before .before .before .before .before .pre in
+    let the-if2 = c .before .before .before .before .before .before .before .before .before .before .before .before .before .before .if2 in
+    let the-if1 = c .before .before .before .before .before .before .before .before .before .before .before .before .before .before .before .if1 in
+    let the-put = c .before .before .before .put in
+    let the-headed2 = c .before .before .before .before .before .before .before .before .headed2 in
+    let the-pass-fork = c .before .before .before .before .before .before .before .before .before .before .before .before .pass-fork in
+    (omega (arith, the-pre .0, at-least-one (the-if2 .taken)), (may-rest (the-pre .1 .0) (the-if1 .left) (the-if2 .taken), omega (arith, the-put .ensures .kept .same-length, the-headed2 .ensures .kept .same-length, the-pass-fork .ensures .kept .same-length, the-pre .1 .1)))
+
+passes-same-length : (t : ℕ) → passes-lts.Need-same-length (passes-calls t) (passes-at t) passes.Post
+passes-same-length t c =
+    let the-passes = c .before .before .passes in
+    let the-headed = c .before .before .before .before .before .before .headed in
+    the-passes .ensures .kept .same-length ∙ the-headed .ensures .kept .same-length
+
+passes-returns : (t : ℕ) → passes-lts.Need-returns (passes-calls t) (passes-at t) passes.Post
+passes-returns t c =
+    let the-if1 = c .before .before .before .before .before .before .before .before .before .if1 in
+    let the-entered = c .before .before .before .before .before .before .before .entered in
+    let the-headed = c .before .before .before .before .before .before .headed in
+    let the-passes = c .before .before .passes in
+    must-laid (the-if1 .taken) (the-entered .ensures) (the-headed .ensures) (the-passes .ensures)
+
+passes-same-length-2 : (t : ℕ) → passes-lts.Need-same-length-2 (passes-calls t) (passes-at t) passes.Post
+passes-same-length-2 t c =
+    let the-passes2 = c .before .before .passes2 in
+    let the-put = c .before .before .before .before .before .before .put in
+    let the-headed2 = c .before .before .before .before .before .before .before .before .before .before .before .headed2 in
+    let the-pass-fork = c .before .before .before .before .before .before .before .before .before .before .before .before .before .before .before .pass-fork in
+    the-passes2 .ensures .kept .same-length ∙ the-put .ensures .kept .same-length ∙ the-headed2 .ensures .kept .same-length ∙ the-pass-fork .ensures .kept .same-length
+
+passes-returns-2 : (t : ℕ) → passes-lts.Need-returns-2 (passes-calls t) (passes-at t) passes.Post
+passes-returns-2 t c =
+    let the-if1 = c .before .before .before .before .before .before .before .before .before .before .before .before .before .before .before .before .before .before .if1 in
+    let the-if2 = c .before .before .before .before .before .before .before .before .before .before .before .before .before .before .before .before .before .if2 in
+    let the-pass-fork = c .before .before .before .before .before .before .before .before .before .before .before .before .before .before .before .pass-fork in
+    let the-headed2 = c .before .before .before .before .before .before .before .before .before .before .before .headed2 in
+    let the-put = c .before .before .before .before .before .before .put in
+    let the-args = c .before .before .before .before .before .before .before .before .before .before .before .before .before .before .before .before .before .before .before .before .before .args in
+    let the-pass-end = c .before .before .before .before .before .before .before .pass-end in
+    let the-passes2 = c .before .before .passes2 in
+    may-laid (the-if1 .left) (the-if2 .taken) (the-pass-fork .ensures) (the-headed2 .ensures) (the-put .ensures) (the-args .endless) (the-pass-end .ensures) (the-passes2 .ensures)
+
+passes-returns-3 : (t : ℕ) → passes-lts.Need-returns-3 (passes-calls t) (passes-at t) passes.Post
+passes-returns-3 t c =
+    let the-args = c .before .before .before .before .args in
+    let the-if1 = c .before .if1 in
+    let the-if2 = c .if2 in
+    none-laid (the-args .endless) (the-if1 .left) (the-if2 .left)
+
+abbrev repeated-calls : ℕ → repeated-lts.Claims
+repeated-calls t = (number-at-reads.Asked, number-at-reads.Learnt, count-reads.Asked, count-reads.Learnt, passes-below t, passes.Post)
+
+repeated-add-at : (t : ℕ) → repeated-lts.Need-add-at (repeated-calls t) (repeated-at t) repeated.Post
+repeated-add-at t c =
+    let the-pre = c .before .before .pre in
+    omega (arith, (the-pre .1 .0) .inside .end-is, (the-pre .1 .0) .inside .ends, (the-pre .1 .0) .inside .short)
+
+repeated-number-at-requires : (t : ℕ) → repeated-lts.Need-number-at-requires (repeated-calls t) (repeated-at t) repeated.Post
+repeated-number-at-requires t c κs =
+    let the-pre = c .before .before .pre in
+    omega (arith, (the-pre .1 .0) .inside .end-is, (the-pre .1 .0) .inside .ends, (the-pre .1 .0) .inside .short)
+
+repeated-add-number-at : (t : ℕ) → repeated-lts.Need-add-number-at (repeated-calls t) (repeated-at t) repeated.Post
+repeated-add-number-at t c =
+    let the-pre = c .before .before .before .pre in
+    omega (arith, (the-pre .1 .0) .inside .end-is, (the-pre .1 .0) .inside .ends, (the-pre .1 .0) .inside .short)
+
+repeated-number-at-requires-2 : (t : ℕ) → repeated-lts.Need-number-at-requires-2 (repeated-calls t) (repeated-at t) repeated.Post
+repeated-number-at-requires-2 t c κs =
+    let the-pre = c .before .before .before .pre in
+    omega (arith, (the-pre .1 .0) .inside .end-is, (the-pre .1 .0) .inside .ends, (the-pre .1 .0) .inside .short)
+
+repeated-add-number-at-2 : (t : ℕ) → repeated-lts.Need-add-number-at-2 (repeated-calls t) (repeated-at t) repeated.Post
+repeated-add-number-at-2 t c =
+    let the-pre = c .before .before .before .before .pre in
+    omega (arith, (the-pre .1 .0) .inside .end-is, (the-pre .1 .0) .inside .ends, (the-pre .1 .0) .inside .short)
+
+repeated-number-at-requires-3 : (t : ℕ) → repeated-lts.Need-number-at-requires-3 (repeated-calls t) (repeated-at t) repeated.Post
+repeated-number-at-requires-3 t c κs =
+    let the-pre = c .before .before .before .before .pre in
+    omega (arith, (the-pre .1 .0) .inside .end-is, (the-pre .1 .0) .inside .ends, (the-pre .1 .0) .inside .short)
+
+repeated-count-requires : (t : ℕ) → repeated-lts.Need-count-requires (repeated-calls t) (repeated-at t) repeated.Post
+repeated-count-requires t c κs =
+    let the-pre = c .before .before .before .before .before .pre in
+    repeat-counting (the-pre .1 .0)
+
+repeated-passes-requires : (t : ℕ) → repeated-lts.Need-passes-requires (repeated-calls t) (repeated-at t) repeated.Post
+repeated-passes-requires t c κs =
+    let the-pre = c .before .before .before .before .before .before .before .before .pre in
+    let the-number-at = c .before .before .before .before .before .number-at in
+    let the-number-at2 = c .before .before .before .before .number-at2 in
+    let the-number-at3 = c .before .before .before .number-at3 in
+    let the-count = c .before .before .count in
+    let the-if1 = c .before .if1 in
+    (omega (arith, the-pre .0, the-number-at .ensures .0, (the-pre .1 .0) .numbers .least-is, (the-pre .1 .0) .numbers .small), (endless-ask (the-pre .1 .0) (the-number-at .ensures .0) (the-number-at2 .ensures .0) (the-number-at3 .ensures .0) (the-count .ensures) (the-if1 .taken), the-pre .1 .1))
+
+repeated-sub-passes : (t : ℕ) → repeated-lts.Need-sub-passes (repeated-calls t) (repeated-at t) repeated.Post
+repeated-sub-passes t c =
+    let the-pre = c .before .before .before .before .before .before .before .before .pre in
+    let the-number-at = c .before .before .before .before .before .number-at in
+    let the-number-at2 = c .before .before .before .before .number-at2 in
+    let the-number-at3 = c .before .before .before .number-at3 in
+    let the-count = c .before .before .count in
+    let the-if1 = c .before .if1 in
+    bounded-counts (the-pre .1 .0) (the-number-at .ensures .0) (the-number-at2 .ensures .0) (the-number-at3 .ensures .0) (the-count .ensures) (the-if1 .left) .0
+
+repeated-passes-requires-2 : (t : ℕ) → repeated-lts.Need-passes-requires-2 (repeated-calls t) (repeated-at t) repeated.Post
+repeated-passes-requires-2 t c κs =
+    let the-pre = c .before .before .before .before .before .before .before .before .pre in
+    let the-number-at = c .before .before .before .before .before .number-at in
+    let the-number-at2 = c .before .before .before .before .number-at2 in
+    let the-number-at3 = c .before .before .before .number-at3 in
+    let the-count = c .before .before .count in
+    let the-if1 = c .before .if1 in
+    let w = bounded-counts (the-pre .1 .0) (the-number-at .ensures .0) (the-number-at2 .ensures .0) (the-number-at3 .ensures .0) (the-count .ensures) (the-if1 .left) in (omega (arith, the-pre .0), (bounded-ask (the-pre .1 .0) (the-number-at .ensures .0) (the-number-at2 .ensures .0) (the-number-at3 .ensures .0) (the-count .ensures) (the-if1 .left), the-pre .1 .1))
+
+repeated-same-length : (t : ℕ) → repeated-lts.Need-same-length (repeated-calls t) (repeated-at t) repeated.Post
+repeated-same-length t c =
+    let the-passes = c .before .before .passes in
+    the-passes .ensures .kept .same-length
+
+repeated-returns : (t : ℕ) → repeated-lts.Need-returns (repeated-calls t) (repeated-at t) repeated.Post
+repeated-returns t c =
+    let the-number-at = c .before .before .before .before .before .before .before .before .number-at in
+    let the-number-at2 = c .before .before .before .before .before .before .before .number-at2 in
+    let the-number-at3 = c .before .before .before .before .before .before .number-at3 in
+    let the-count = c .before .before .before .before .before .count in
+    let the-if1 = c .before .before .before .before .if1 in
+    let the-passes = c .before .before .passes in
+    record { kept = λ m. endless-laid m (the-number-at .ensures .0) (the-number-at2 .ensures .0) (the-number-at3 .ensures .0) (the-count .ensures) (the-if1 .taken) (the-passes .ensures) .0; laid = λ m. endless-laid m (the-number-at .ensures .0) (the-number-at2 .ensures .0) (the-number-at3 .ensures .0) (the-count .ensures) (the-if1 .taken) (the-passes .ensures) .1 }
+
+repeated-same-length-2 : (t : ℕ) → repeated-lts.Need-same-length-2 (repeated-calls t) (repeated-at t) repeated.Post
+repeated-same-length-2 t c =
+    let the-passes2 = c .before .before .passes2 in
+    the-passes2 .ensures .kept .same-length
+
+repeated-returns-2 : (t : ℕ) → repeated-lts.Need-returns-2 (repeated-calls t) (repeated-at t) repeated.Post
+repeated-returns-2 t c =
+    let the-number-at = c .before .before .before .before .before .before .before .before .number-at in
+    let the-number-at2 = c .before .before .before .before .before .before .before .number-at2 in
+    let the-number-at3 = c .before .before .before .before .before .before .number-at3 in
+    let the-count = c .before .before .before .before .before .count in
+    let the-if1 = c .before .before .before .before .if1 in
+    let the-passes2 = c .before .before .passes2 in
+    record { kept = λ m. bounded-laid m (the-number-at .ensures .0) (the-number-at2 .ensures .0) (the-number-at3 .ensures .0) (the-count .ensures) (the-if1 .left) (the-passes2 .ensures) .0; laid = λ m. bounded-laid m (the-number-at .ensures .0) (the-number-at2 .ensures .0) (the-number-at3 .ensures .0) (the-count .ensures) (the-if1 .left) (the-passes2 .ensures) .1 }
+
+abbrev row-calls : ℕ → row-lts.Claims
+row-calls t = (number-at-reads.Asked, number-at-reads.Learnt, one-below t, one.Post, count-reads.Asked, count-reads.Learnt, entered-reads.Asked, entered-reads.Learnt, put-reads.Asked, put-reads.Learnt, row-below t, row.Post)
+
+row-add-end : (t : ℕ) → row-lts.Need-add-end (row-calls t) (row-at t) row.Post
+row-add-end t c =
+    let the-pre = c .before .before .pre in
+    omega (arith, row-header (the-pre .1 .0), (the-pre .1 .0) .ends, (the-pre .1 .0) .short)
+
+row-number-at-requires : (t : ℕ) → row-lts.Need-number-at-requires (row-calls t) (row-at t) row.Post
+row-number-at-requires t c κs =
+    let the-pre = c .before .before .pre in
+    omega (arith, row-header (the-pre .1 .0), (the-pre .1 .0) .ends, (the-pre .1 .0) .short)
+
+row-add-end-2 : (t : ℕ) → row-lts.Need-add-end-2 (row-calls t) (row-at t) row.Post
+row-add-end-2 t c =
+    let the-number-at = c .number-at in
+    let the-pre = c .before .before .before .pre in
+    omega (arith, the-number-at .ensures .0, row-header (the-pre .1 .0), (the-pre .1 .0) .ends, (the-pre .1 .0) .short)
+
+row-one-requires : (t : ℕ) → row-lts.Need-one-requires (row-calls t) (row-at t) row.Post
+row-one-requires t c κs =
+    let the-args = c .before .before .before .before .before .args in
+    let the-number-at = c .before .before .number-at in
+    let the-pre = c .before .before .before .before .before .pre in
+    let the-if1 = c .before .if1 in
+    let ee = (ap (λ (k : ℕ). the-args .at + 4 + k) (the-number-at .ensures .0)) in (omega (arith, the-pre .0, row-header (the-pre .1 .0), the-number-at .ensures .0), (last-one ee (the-if1 .taken) (the-pre .1 .0), the-pre .1 .1))
+
+row-count-requires : (t : ℕ) → row-lts.Need-count-requires (row-calls t) (row-at t) row.Post
+row-count-requires t c κs =
+    let the-args = c .before .before .before .before .args in
+    let the-number-at = c .before .number-at in
+    let the-if1 = c .if1 in
+    let the-pre = c .before .before .before .before .pre in
+    more-counting (ap (λ (k : ℕ). the-args .at + 4 + k) (the-number-at .ensures .0)) (the-if1 .left) (the-pre .1 .0)
+
+row-add-second : (t : ℕ) → row-lts.Need-add-second (row-calls t) (row-at t) row.Post
+row-add-second t c =
+    let the-args = c .before .before .before .before .before .before .args in
+    let the-number-at = c .before .before .before .number-at in
+    let the-if2 = c .if2 in
+    let the-pre = c .before .before .before .before .before .before .pre in
+    let the-if1 = c .before .before .if1 in
+    let the-count = c .before .count in
+    let ee = (ap (λ (k : ℕ). the-args .at + 4 + k) (the-number-at .ensures .0)) in let m = rw (the-if2 .taken) at (the-pre .1 .0) in omega (arith, m .room, fork-sum ee (the-if1 .left) (the-count .ensures) m)
+
+row-add-second-2 : (t : ℕ) → row-lts.Need-add-second-2 (row-calls t) (row-at t) row.Post
+row-add-second-2 t c =
+    let the-args = c .before .before .before .before .before .before .before .args in
+    let the-number-at = c .before .before .before .before .number-at in
+    let the-if2 = c .before .if2 in
+    let the-pre = c .before .before .before .before .before .before .before .pre in
+    let the-if1 = c .before .before .before .if1 in
+    let the-count = c .before .before .count in
+    let ee = (ap (λ (k : ℕ). the-args .at + 4 + k) (the-number-at .ensures .0)) in let m = rw (the-if2 .taken) at (the-pre .1 .0) in omega (arith, m .room, fork-sum ee (the-if1 .left) (the-count .ensures) m)
+
+row-sub-rest : (t : ℕ) → row-lts.Need-sub-rest (row-calls t) (row-at t) row.Post
+row-sub-rest t c =
+    let the-args = c .before .before .before .before .before .before .before .args in
+    let the-number-at = c .before .before .before .before .number-at in
+    let the-if2 = c .before .if2 in
+    let the-pre = c .before .before .before .before .before .before .before .pre in
+    let the-if1 = c .before .before .before .if1 in
+    let the-count = c .before .before .count in
+    let ee = (ap (λ (k : ℕ). the-args .at + 4 + k) (the-number-at .ensures .0)) in let m = rw (the-if2 .taken) at (the-pre .1 .0) in omega (arith, fork-sum ee (the-if1 .left) (the-count .ensures) m)
+
+row-sub-rest-2 : (t : ℕ) → row-lts.Need-sub-rest-2 (row-calls t) (row-at t) row.Post
+row-sub-rest-2 t c =
+    let the-args = c .before .before .before .before .before .before .before .before .args in
+    let the-number-at = c .before .before .before .before .before .number-at in
+    let the-if2 = c .before .before .if2 in
+    let the-pre = c .before .before .before .before .before .before .before .before .pre in
+    let the-if1 = c .before .before .before .before .if1 in
+    let the-count = c .before .before .before .count in
+    let ee = (ap (λ (k : ℕ). the-args .at + 4 + k) (the-number-at .ensures .0)) in let m = rw (the-if2 .taken) at (the-pre .1 .0) in omega (arith, fork-sum ee (the-if1 .left) (the-count .ensures) m)
+
+row-add-entered : (t : ℕ) → row-lts.Need-add-entered (row-calls t) (row-at t) row.Post
+row-add-entered t c =
+    let the-args = c .before .before .before .before .before .before .before .before .before .args in
+    let the-number-at = c .before .before .before .before .before .before .number-at in
+    let the-if2 = c .before .before .before .if2 in
+    let the-pre = c .before .before .before .before .before .before .before .before .before .pre in
+    let ee = (ap (λ (k : ℕ). the-args .at + 4 + k) (the-number-at .ensures .0)) in let m = rw (the-if2 .taken) at (the-pre .1 .0) in omega (arith, m .room)
+
+row-entered-requires : (t : ℕ) → row-lts.Need-entered-requires (row-calls t) (row-at t) row.Post
+row-entered-requires t c κs = search needs
+
+row-entered-requires-2 : (t : ℕ) → row-lts.Need-entered-requires-2 (row-calls t) (row-at t) row.Post
+row-entered-requires-2 t c κs = search needs
+
+row-put-requires : (t : ℕ) → row-lts.Need-put-requires (row-calls t) (row-at t) row.Post
+row-put-requires t c κs =
+    let the-args = c .before .before .before .before .before .before .before .before .before .before .before .args in
+    let the-number-at = c .before .before .before .before .before .before .before .before .number-at in
+    let the-if2 = c .before .before .before .before .before .if2 in
+    let the-pre = c .before .before .before .before .before .before .before .before .before .before .before .pre in
+    let the-if1 = c .before .before .before .before .before .before .before .if1 in
+    let the-count = c .before .before .before .before .before .before .count in
+    let the-entered = c .before .entered in
+    let the-entered2 = c .entered2 in
+    let ee = (ap (λ (k : ℕ). the-args .at + 4 + k) (the-number-at .ensures .0)) in let m = rw (the-if2 .taken) at (the-pre .1 .0) in record { room = omega (arith, m .room, fork-sum ee (the-if1 .left) (the-count .ensures) m, the-pre .1 .1); next-fits = omega (arith, the-entered .ensures, entry-small (the-count .result .places) (the-args .base + 1) (the-args .next) {most = 65535} (omega (arith, m .room)) (omega (arith, m .follows))); a-fits = omega (arith, the-entered2 .ensures, entry-small (the-args .places - 1 - the-count .result .places) (the-args .base + 1 + the-count .result .places) (the-args .next) {most = 65535} (omega (arith, m .room, fork-sum ee (the-if1 .left) (the-count .ensures) m)) (omega (arith, m .follows))); n-fits = omega arith }
+
+row-add-one : (t : ℕ) → row-lts.Need-add-one (row-calls t) (row-at t) row.Post
+row-add-one t c =
+    let the-args = c .before .before .before .before .before .before .before .before .before .before .before .before .before .before .before .args in
+    let the-number-at = c .before .before .before .before .before .before .before .before .before .before .before .before .number-at in
+    let the-if2 = c .before .before .before .before .before .before .before .before .before .if2 in
+    let the-pre = c .before .before .before .before .before .before .before .before .before .before .before .before .before .before .before .pre in
+    let ee = (ap (λ (k : ℕ). the-args .at + 4 + k) (the-number-at .ensures .0)) in let m = rw (the-if2 .taken) at (the-pre .1 .0) in omega (arith, m .room)
+
+row-one-requires-2 : (t : ℕ) → row-lts.Need-one-requires-2 (row-calls t) (row-at t) row.Post
+row-one-requires-2 t c κs =
+    let the-args = c .before .before .before .before .before .before .before .before .before .before .before .before .before .before .before .args in
+    let the-number-at = c .before .before .before .before .before .before .before .before .before .before .before .before .number-at in
+    let the-if2 = c .before .before .before .before .before .before .before .before .before .if2 in
+    let the-pre = c .before .before .before .before .before .before .before .before .before .before .before .before .before .before .before .pre in
+    let the-if1 = c .before .before .before .before .before .before .before .before .before .before .before .if1 in
+    let the-count = c .before .before .before .before .before .before .before .before .before .before .count in
+    let the-put = c .before .before .before .put in
+    let ee = (ap (λ (k : ℕ). the-args .at + 4 + k) (the-number-at .ensures .0)) in let m = rw (the-if2 .taken) at (the-pre .1 .0) in (omega (arith, the-pre .0, row-header m, the-number-at .ensures .0), (fork-one ee (the-if1 .left) (the-count .ensures) m, omega (arith, the-put .ensures .kept .same-length, the-pre .1 .1)))
+
+row-add-row : (t : ℕ) → row-lts.Need-add-row (row-calls t) (row-at t) row.Post
+row-add-row t c =
+    let the-args = c .before .before .before .before .before .before .before .before .before .before .before .before .before .before .before .before .before .before .before .before .args in
+    let the-number-at = c .before .before .before .before .before .before .before .before .before .before .before .before .before .before .before .before .before .number-at in
+    let the-if2 = c .before .before .before .before .before .before .before .before .before .before .before .before .before .before .if2 in
+    let the-pre = c .before .before .before .before .before .before .before .before .before .before .before .before .before .before .before .before .before .before .before .before .pre in
+    let the-if1 = c .before .before .before .before .before .before .before .before .before .before .before .before .before .before .before .before .if1 in
+    let the-count = c .before .before .before .before .before .before .before .before .before .before .before .before .before .before .before .count in
+    let ee = (ap (λ (k : ℕ). the-args .at + 4 + k) (the-number-at .ensures .0)) in let m = rw (the-if2 .taken) at (the-pre .1 .0) in omega (arith, more-few ee (the-if1 .left) (the-count .ensures) m)
+
+row-row-requires : (t : ℕ) → row-lts.Need-row-requires (row-calls t) (row-at t) row.Post
+row-row-requires t c κs =
+    let the-args = c .before .before .before .before .before .before .before .before .before .before .before .before .before .before .before .before .before .before .before .before .args in
+    let the-number-at = c .before .before .before .before .before .before .before .before .before .before .before .before .before .before .before .before .before .number-at in
+    let the-if2 = c .before .before .before .before .before .before .before .before .before .before .before .before .before .before .if2 in
+    let the-pre = c .before .before .before .before .before .before .before .before .before .before .before .before .before .before .before .before .before .before .before .before .pre in
+    let the-if1 = c .before .before .before .before .before .before .before .before .before .before .before .before .before .before .before .before .if1 in
+    let the-count = c .before .before .before .before .before .before .before .before .before .before .before .before .before .before .before .count in
+    let the-one2 = c .before .before .before .before .one2 in
+    let the-put = c .before .before .before .before .before .before .before .before .put in
+    let ee = (ap (λ (k : ℕ). the-args .at + 4 + k) (the-number-at .ensures .0)) in let m = rw (the-if2 .taken) at (the-pre .1 .0) in (omega (arith, the-pre .0, row-header m, the-number-at .ensures .0), (fork-rest ee (the-if1 .left) (the-count .ensures) m, omega (arith, the-one2 .ensures .kept .same-length, the-put .ensures .kept .same-length, the-pre .1 .1)))
+
+row-add-second-3 : (t : ℕ) → row-lts.Need-add-second-3 (row-calls t) (row-at t) row.Post
+row-add-second-3 t c =
+    let the-args = c .before .before .before .before .before .before .before .args in
+    let the-number-at = c .before .before .before .before .number-at in
+    let the-if2 = c .before .if2 in
+    let the-pre = c .before .before .before .before .before .before .before .pre in
+    let the-if1 = c .before .before .before .if1 in
+    let the-count = c .before .before .count in
+    let ee = (ap (λ (k : ℕ). the-args .at + 4 + k) (the-number-at .ensures .0)) in let m = rw (the-if2 .left) at (the-pre .1 .0) in omega (arith, m .room, chain-sum ee (the-if1 .left) (the-count .ensures) m)
+
+row-sub-rest-3 : (t : ℕ) → row-lts.Need-sub-rest-3 (row-calls t) (row-at t) row.Post
+row-sub-rest-3 t c =
+    let the-args = c .before .before .before .before .before .before .before .before .args in
+    let the-number-at = c .before .before .before .before .before .number-at in
+    let the-if2 = c .before .before .if2 in
+    let the-pre = c .before .before .before .before .before .before .before .before .pre in
+    let the-if1 = c .before .before .before .before .if1 in
+    let the-count = c .before .before .before .count in
+    let ee = (ap (λ (k : ℕ). the-args .at + 4 + k) (the-number-at .ensures .0)) in let m = rw (the-if2 .left) at (the-pre .1 .0) in omega (arith, chain-sum ee (the-if1 .left) (the-count .ensures) m)
+
+row-entered-requires-3 : (t : ℕ) → row-lts.Need-entered-requires-3 (row-calls t) (row-at t) row.Post
+row-entered-requires-3 t c κs = search needs
+
+row-one-requires-3 : (t : ℕ) → row-lts.Need-one-requires-3 (row-calls t) (row-at t) row.Post
+row-one-requires-3 t c κs =
+    let the-args = c .before .before .before .before .before .before .before .before .before .before .args in
+    let the-number-at = c .before .before .before .before .before .before .before .number-at in
+    let the-if2 = c .before .before .before .before .if2 in
+    let the-pre = c .before .before .before .before .before .before .before .before .before .before .pre in
+    let the-if1 = c .before .before .before .before .before .before .if1 in
+    let the-count = c .before .before .before .before .before .count in
+    let the-entered3 = c .entered3 in
+    let ee = (ap (λ (k : ℕ). the-args .at + 4 + k) (the-number-at .ensures .0)) in let m = rw (the-if2 .left) at (the-pre .1 .0) in (omega (arith, the-pre .0, row-header m, the-number-at .ensures .0), (chain-one ee (the-if1 .left) (the-count .ensures) (the-entered3 .result) (the-entered3 .ensures) m, the-pre .1 .1))
+
+row-add-row-2 : (t : ℕ) → row-lts.Need-add-row-2 (row-calls t) (row-at t) row.Post
+row-add-row-2 t c =
+    let the-args = c .before .before .before .before .before .before .before .before .before .before .before .before .before .before .before .args in
+    let the-number-at = c .before .before .before .before .before .before .before .before .before .before .before .before .number-at in
+    let the-if2 = c .before .before .before .before .before .before .before .before .before .if2 in
+    let the-pre = c .before .before .before .before .before .before .before .before .before .before .before .before .before .before .before .pre in
+    let the-if1 = c .before .before .before .before .before .before .before .before .before .before .before .if1 in
+    let the-count = c .before .before .before .before .before .before .before .before .before .before .count in
+    let ee = (ap (λ (k : ℕ). the-args .at + 4 + k) (the-number-at .ensures .0)) in let m = rw (the-if2 .left) at (the-pre .1 .0) in omega (arith, more-few ee (the-if1 .left) (the-count .ensures) m)
+
+row-row-requires-2 : (t : ℕ) → row-lts.Need-row-requires-2 (row-calls t) (row-at t) row.Post
+row-row-requires-2 t c κs =
+    let the-args = c .before .before .before .before .before .before .before .before .before .before .before .before .before .before .before .args in
+    let the-number-at = c .before .before .before .before .before .before .before .before .before .before .before .before .number-at in
+    let the-if2 = c .before .before .before .before .before .before .before .before .before .if2 in
+    let the-pre = c .before .before .before .before .before .before .before .before .before .before .before .before .before .before .before .pre in
+    let the-if1 = c .before .before .before .before .before .before .before .before .before .before .before .if1 in
+    let the-count = c .before .before .before .before .before .before .before .before .before .before .count in
+    let the-one3 = c .before .before .before .before .one3 in
+    let ee = (ap (λ (k : ℕ). the-args .at + 4 + k) (the-number-at .ensures .0)) in let m = rw (the-if2 .left) at (the-pre .1 .0) in (omega (arith, the-pre .0, row-header m, the-number-at .ensures .0), (chain-rest ee (the-if1 .left) (the-count .ensures) m, omega (arith, the-one3 .ensures .kept .same-length, the-pre .1 .1)))
+
+row-same-length : (t : ℕ) → row-lts.Need-same-length (row-calls t) (row-at t) row.Post
+row-same-length t c =
+    let the-one = c .before .before .one in
+    the-one .ensures .kept .same-length
+
+row-returns : (t : ℕ) → row-lts.Need-returns (row-calls t) (row-at t) row.Post
+row-returns t c =
+    let the-args = c .before .before .before .before .before .before .before .before .args in
+    let the-number-at = c .before .before .before .before .before .number-at in
+    let the-if1 = c .before .before .before .before .if1 in
+    let the-one = c .before .before .one in
+    last-laid (ap (λ (k : ℕ). the-args .at + 4 + k) (the-number-at .ensures .0)) (the-if1 .taken) (the-one .ensures)
+
+row-same-length-2 : (t : ℕ) → row-lts.Need-same-length-2 (row-calls t) (row-at t) row.Post
+row-same-length-2 t c =
+    let the-row = c .before .before .row in
+    let the-one2 = c .before .before .before .before .before .before .before .one2 in
+    let the-put = c .before .before .before .before .before .before .before .before .before .before .before .put in
+    the-row .ensures .kept .same-length ∙ the-one2 .ensures .kept .same-length ∙ the-put .ensures .kept .same-length
+
+row-returns-2 : (t : ℕ) → row-lts.Need-returns-2 (row-calls t) (row-at t) row.Post
+row-returns-2 t c =
+    let the-args = c .before .before .before .before .before .before .before .before .before .before .before .before .before .before .before .before .before .before .before .before .before .before .before .args in
+    let the-number-at = c .before .before .before .before .before .before .before .before .before .before .before .before .before .before .before .before .before .before .before .before .number-at in
+    let the-if2 = c .before .before .before .before .before .before .before .before .before .before .before .before .before .before .before .before .before .if2 in
+    let the-pre = c .before .before .before .before .before .before .before .before .before .before .before .before .before .before .before .before .before .before .before .before .before .before .before .pre in
+    let the-if1 = c .before .before .before .before .before .before .before .before .before .before .before .before .before .before .before .before .before .before .before .if1 in
+    let the-count = c .before .before .before .before .before .before .before .before .before .before .before .before .before .before .before .before .before .before .count in
+    let the-entered = c .before .before .before .before .before .before .before .before .before .before .before .before .before .entered in
+    let the-entered2 = c .before .before .before .before .before .before .before .before .before .before .before .before .entered2 in
+    let the-put = c .before .before .before .before .before .before .before .before .before .before .before .put in
+    let the-one2 = c .before .before .before .before .before .before .before .one2 in
+    let the-row = c .before .before .row in
+    let ee = (ap (λ (k : ℕ). the-args .at + 4 + k) (the-number-at .ensures .0)) in let m = rw (the-if2 .taken) at (the-pre .1 .0) in rw (the-if2 .taken) (fork-laid ee (the-if1 .left) (the-count .ensures) (the-entered .ensures) (the-entered2 .ensures) m (the-put .ensures) (the-one2 .ensures) (the-row .ensures))
+
+row-same-length-3 : (t : ℕ) → row-lts.Need-same-length-3 (row-calls t) (row-at t) row.Post
+row-same-length-3 t c =
+    let the-row2 = c .before .before .row2 in
+    let the-one3 = c .before .before .before .before .before .before .before .one3 in
+    the-row2 .ensures .kept .same-length ∙ the-one3 .ensures .kept .same-length
+
+row-returns-3 : (t : ℕ) → row-lts.Need-returns-3 (row-calls t) (row-at t) row.Post
+row-returns-3 t c =
+    let the-args = c .before .before .before .before .before .before .before .before .before .before .before .before .before .before .before .before .before .before .args in
+    let the-number-at = c .before .before .before .before .before .before .before .before .before .before .before .before .before .before .before .number-at in
+    let the-if2 = c .before .before .before .before .before .before .before .before .before .before .before .before .if2 in
+    let the-pre = c .before .before .before .before .before .before .before .before .before .before .before .before .before .before .before .before .before .before .pre in
+    let the-if1 = c .before .before .before .before .before .before .before .before .before .before .before .before .before .before .if1 in
+    let the-count = c .before .before .before .before .before .before .before .before .before .before .before .before .before .count in
+    let the-entered3 = c .before .before .before .before .before .before .before .before .entered3 in
+    let the-one3 = c .before .before .before .before .before .before .before .one3 in
+    let the-row2 = c .before .before .row2 in
+    let ee = (ap (λ (k : ℕ). the-args .at + 4 + k) (the-number-at .ensures .0)) in let m = rw (the-if2 .left) at (the-pre .1 .0) in rw (the-if2 .left) (chain-laid ee (the-if1 .left) (the-count .ensures) (the-entered3 .ensures) m (the-one3 .ensures) (the-row2 .ensures))
+
+pub +headed+one+passes+repeated+row-spec : {M : Type 1} → statement M
++headed+one+passes+repeated+row-spec =
+    close μ-headed μ-one μ-passes μ-repeated μ-row (λ t. headed-lts.spec (headed-calls t)
+    (headed-at t)
+    headed.Post
+    (headed-add-entered t)
+    (headed-entered-requires t)
+    (headed-put-requires t)
+    (headed-add-row t)
+    (headed-row-requires t)
+    (headed-same-length t)
+    (headed-returns t)
+    (headed-same-length-2 t)
+    (headed-returns-2 t))
+    (λ t. one-lts.spec (one-calls t)
+    (one-at t)
+    one.Post
+    (one-add-number-at t)
+    (one-number-at-requires t)
+    (one-add-start t)
+    (one-put-requires t)
+    (one-sub-put t)
+    (one-put-requires-2 t)
+    (one-add-close t)
+    (one-sub-close t)
+    (one-add-close-2 t)
+    (one-add-headed t)
+    (one-sub-headed t)
+    (one-headed-requires t)
+    (one-put-requires-3 t)
+    (one-repeated-requires t)
+    (one-row-requires t)
+    (one-returns t)
+    (one-same-length t)
+    (one-returns-2 t)
+    (one-same-length-2 t)
+    (one-returns-3 t)
+    (one-same-length-3 t)
+    (one-returns-4 t)
+    (one-same-length-4 t)
+    (one-returns-5 t)
+    (one-same-length-5 t)
+    (one-returns-6 t))
+    (λ t. passes-lts.spec (passes-calls t)
+    (passes-at t)
+    passes.Post
+    (passes-add-after t)
+    (passes-add-after-2 t)
+    (passes-sub-entered t)
+    (passes-add-entered t)
+    (passes-entered-requires t)
+    (passes-headed-requires t)
+    (passes-sub-passes t)
+    (passes-passes-requires t)
+    (passes-add-end t)
+    (passes-add-end-2 t)
+    (passes-add-end-3 t)
+    (passes-add-pass-fork t)
+    (passes-pass-fork-requires t)
+    (passes-add-headed t)
+    (passes-headed-requires-2 t)
+    (passes-add-pass-end t)
+    (passes-pass-end-requires t)
+    (passes-put-requires t)
+    (passes-sub-passes-2 t)
+    (passes-add-passes t)
+    (passes-passes-requires-2 t)
+    (passes-same-length t)
+    (passes-returns t)
+    (passes-same-length-2 t)
+    (passes-returns-2 t)
+    (passes-returns-3 t))
+    (λ t. repeated-lts.spec (repeated-calls t)
+    (repeated-at t)
+    repeated.Post
+    (repeated-add-at t)
+    (repeated-number-at-requires t)
+    (repeated-add-number-at t)
+    (repeated-number-at-requires-2 t)
+    (repeated-add-number-at-2 t)
+    (repeated-number-at-requires-3 t)
+    (repeated-count-requires t)
+    (repeated-passes-requires t)
+    (repeated-sub-passes t)
+    (repeated-passes-requires-2 t)
+    (repeated-same-length t)
+    (repeated-returns t)
+    (repeated-same-length-2 t)
+    (repeated-returns-2 t))
+    λ t. row-lts.spec (row-calls t)
+    (row-at t)
+    row.Post
+    (row-add-end t)
+    (row-number-at-requires t)
+    (row-add-end-2 t)
+    (row-one-requires t)
+    (row-count-requires t)
+    (row-add-second t)
+    (row-add-second-2 t)
+    (row-sub-rest t)
+    (row-sub-rest-2 t)
+    (row-add-entered t)
+    (row-entered-requires t)
+    (row-entered-requires-2 t)
+    (row-put-requires t)
+    (row-add-one t)
+    (row-one-requires-2 t)
+    (row-add-row t)
+    (row-row-requires t)
+    (row-add-second-3 t)
+    (row-sub-rest-3 t)
+    (row-entered-requires-3 t)
+    (row-one-requires-3 t)
+    (row-add-row-2 t)
+    (row-row-requires-2 t)
+    (row-same-length t)
+    (row-returns t)
+    (row-same-length-2 t)
+    (row-returns-2 t)
+    (row-same-length-3 t)
+    (row-returns-3 t)

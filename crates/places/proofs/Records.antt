@@ -1,0 +1,533 @@
+-- Building one record, by its kind, and records in a row.
+use Prim.Native.Nat.{ℕ, zero, suc, _+_, _-_, _*_, _/_, _≤_, _<_}
+use mathlib.Core.Path.{_≡_, refl, sym, ap, subst, _∙_}
+use mathlib.Core.Bool.{Bool, true, false, cond}
+use mathlib.Core.List.{List, [], _∷_}
+use native.Mathlib.Numerals.{add-one}
+use native.Mathlib.Omega.{arith}
+use borrow.Author.Tests.{eq-eqb, ne-eqb}
+use lib.Dec.{eqb}
+use lib.ListN.{length}
+use Rattle.paper.specs.Pattern.{Mode, greedy, lazy, Upper, upTo, noEnd, Range, Pattern, places, groups, repeatPlaces}
+use Rattle.paper.specs.Pattern.Pattern.{nothing, bytes, group, repeat}
+use Rattle.paper.specs.Layout.{upperNumber, modeNumber}
+use Rattle.paper.specs.Check.{numberAt, bodyEnd, bodyStart, kindAt, upperOf, modeOf, part, rangesOf, repeatHead}
+use Rattle.paper.specs.Machine.{Core, captures, chain, either, size, writtenOut, musts, optionals, opening, closing, fork, set}
+use Rattle.paper.specs.Tables.{placeOf}
+use Rattle.places.specs.Laid.{Holds, Kept, Lays, entryOf}
+use Rattle.places.specs.Standing.{Stands, Row, Pairs, Passes, UpperRight, placesIn, groupsIn, rowPlaces, rowCore}
+use Rattle.places.specs.Asked.{Put, Counting, Counted, Inside, One, OneLaid, HeadLaid, Several, SeveralLaid, Repeating, PassesLaid, Repeat, RepeatLaid, optionalCore, passCore, passPlaces}
+use Rattle.places.proofs.Laying.{holds-kept, plain-holds, put-holds, lays-kept, lays-none, kept-none, kept-both}
+use Rattle.places.proofs.Sizes.{size-places, row-size, optional-maybes}
+use Rattle.places.proofs.Entering.{entry-small}
+use Rattle.places.proofs.Adding.{upper-named, repeat-more, row-long}
+use Rattle.places.proofs.Views.{SetView, GroupView, RepeatView, RowView, nothing-view, set-view, group-view, repeat-view, row-view}
+
+mode-named : (mode : Mode) → modeOf (modeNumber mode) ≡ mode
+mode-named greedy = refl
+mode-named lazy = refl
+
+-- `repeated`: the record inside is counted
+abbrev pub repeat-counting : {bs : List ℕ} {start stop base next first : ℕ} → Repeat bs start stop base next first → Counting bs (start + repeatHead) stop
+repeat-counting m =
+    record {
+      records = m .tree ∷ [];
+      stand = (m .inside .stand, m .inside .end-is);
+      ends = m .inside .ends;
+      short = m .inside .short;
+      few = omega (arith, m .inside .few);
+    }
+
+-- the numbers that are read are the tree's
+module _ {bs : List ℕ} {start stop base next first least most mode p g k : ℕ} (m : Repeat bs start stop base next first)
+    (el : least ≡ numberAt bs start) (em : most ≡ numberAt bs (start + 2)) (ed : mode ≡ numberAt bs (start + 4))
+    (c : Counted bs (start + repeatHead) stop p g k) where
+  least-is : least ≡ m .least
+  least-is = el ∙ m .numbers .least-is
+
+  upper-is : upperOf most ≡ m .upper
+  upper-is = ap upperOf (em ∙ m .numbers .upper-is) ∙ upper-named (m .upper) (m .least) (m .numbers .right)
+
+  mode-is : modeOf mode ≡ m .mode
+  mode-is = ap modeOf (ed ∙ m .numbers .mode-is) ∙ mode-named (m .mode)
+
+  pub groups-is : g ≡ groups (m .tree)
+  groups-is = omega (arith, c .sums (repeat-counting m) .groups-are)
+
+  pub places-is : p ≡ places (m .tree)
+  places-is = omega (arith, c .sums (repeat-counting m) .places-are (omega (arith, m .small)))
+
+  pub room-is : base + repeatPlaces least (upperOf most) p ≤ 510
+  room-is = rw (least-is, upper-is, places-is) (m .room)
+
+  bounded : (u : Upper) → most ≡ upperNumber u → UpperRight (m .least) u → (most ≡ 65535 → ⊥) → (m .least ≤ most) × (most ≤ 255)
+  bounded (upTo k) e right not = (omega arith, omega arith)
+  bounded noEnd e right not = absurd (not e)
+
+  -- with an upper end: so many optional passes
+  pub bounded-counts : (most ≡ 65535 → ⊥) → (least ≤ most) × (most ≤ 255)
+  bounded-counts not =
+      let w = bounded (m .upper) (em ∙ m .numbers .upper-is) (m .numbers .right) not in
+      (omega (arith, least-is), w .1)
+
+  pub upper-bounded : (most ≡ 65535 → ⊥) → upperOf most ≡ upTo most
+  upper-bounded not = ap (λ (b : Bool). cond b noEnd (upTo most)) (ne-eqb most 65535 not)
+
+  pub upper-endless : most ≡ 65535 → upperOf most ≡ noEnd
+  upper-endless is = ap (λ (b : Bool). cond b noEnd (upTo most)) (eq-eqb most 65535 is)
+
+  abbrev pub bounded-ask : (most ≡ 65535 → ⊥) → Repeating bs (start + repeatHead) stop least (most - least) false base next first g p
+  bounded-ask not =
+      record {
+        tree = m .tree;
+        inside = m .inside;
+        groups-are = groups-is;
+        places-are = places-is;
+        small = omega (arith, m .small, places-is);
+        once = λ e. absurd (clash e);
+        room = omega (arith, subst (λ (u : Upper). base + repeatPlaces least u p ≤ 510) (upper-bounded not) room-is);
+        follows = m .follows;
+      }
+    where
+      clash : false ≡ true → ⊥
+      clash e = let z : _≡_ {A = ℕ} 0 1 = cc in omega arith
+
+  abbrev pub endless-ask : most ≡ 65535 → Repeating bs (start + repeatHead) stop least 1 true base next first g p
+  endless-ask is =
+      record {
+        tree = m .tree;
+        inside = m .inside;
+        groups-are = groups-is;
+        places-are = places-is;
+        small = omega (arith, m .small, places-is);
+        once = λ e. omega arith;
+        room = omega (arith, subst (λ (u : Upper). base + repeatPlaces least u p ≤ 510) (upper-endless is) room-is);
+        follows = m .follows;
+      }
+
+  -- the tree written out, by the numbers that were read
+  written : writtenOut (repeat (m .least) (m .upper) (m .mode) (m .tree)) first
+      ≡ musts least first g (writtenOut (m .tree) first) (optionals least (upperOf most) (modeOf mode) first g (writtenOut (m .tree) first))
+  written = rw (least-is, upper-is, mode-is, groups-is)
+
+  total : repeatPlaces (m .least) (m .upper) (places (m .tree)) ≡ repeatPlaces least (upperOf most) p
+  total = rw (least-is, upper-is, places-is)
+
+  pub bounded-laid : {t t' : List ℕ} (not : most ≡ 65535 → ⊥)
+      → PassesLaid bs (start + repeatHead) stop least (most - least) false mode base next first g p t t'
+      → Kept base (base + repeatPlaces (m .least) (m .upper) (places (m .tree))) t t'
+      × Lays t' bs (writtenOut (repeat (m .least) (m .upper) (m .mode) (m .tree)) first) base next
+  bounded-laid {t = t} {t' = t'} not r = (
+    subst (λ (k : ℕ). Kept base (base + k) t t') (sym (total ∙ ap (λ (u : Upper). repeatPlaces least u p) (upper-bounded not))) (r .kept),
+    subst (λ (c : Core). Lays t' bs c base next)
+        (sym
+        (written ∙ ap (λ (u : Upper). musts least first g (writtenOut (m .tree) first) (optionals least u (modeOf mode) first g (writtenOut (m .tree) first))) (upper-bounded not)
+        ∙ ap (musts least first g (writtenOut (m .tree) first)) (sym (optional-maybes (most - least) (modeOf mode) first g (writtenOut (m .tree) first)))))
+        (r .laid (bounded-ask not)),
+  )
+
+  pub endless-laid : {t t' : List ℕ} (is : most ≡ 65535) → PassesLaid bs (start + repeatHead) stop least 1 true mode base next first g p t t'
+      → Kept base (base + repeatPlaces (m .least) (m .upper) (places (m .tree))) t t'
+      × Lays t' bs (writtenOut (repeat (m .least) (m .upper) (m .mode) (m .tree)) first) base next
+  endless-laid {t = t} {t' = t'} is r = (
+    subst (λ (k : ℕ). Kept base (base + k) t t') (sym (total ∙ ap (λ (u : Upper). repeatPlaces least u p) (upper-endless is) ∙ omega arith)) (r .kept),
+    subst (λ (c : Core). Lays t' bs c base next)
+        (sym
+        (written ∙ ap (λ (u : Upper). musts least first g (writtenOut (m .tree) first) (optionals least u (modeOf mode) first g (writtenOut (m .tree) first))) (upper-endless is)))
+        (r .laid (endless-ask is)),
+  )
+
+-- `one` without places
+pub nothing-to-lay : {bs : List ℕ} {at stop base next first n : ℕ} {t : List ℕ} → n ≡ 0 → OneLaid bs at stop base next first n t t
+nothing-to-lay {bs} {base = base} {next = next} {first = first} {n = n} {t = t} none =
+    record {
+      kept = kept-none base (base + n) t;
+      laid = λ m. lays-none (writtenOut (m .tree) first) t bs base next (size-places (m .tree) first ∙ sym (m .places-are) ∙ none);
+    }
+
+-- what is laid of a tree is laid of the same tree by another name
+as-tree : (t bs : List ℕ) (first base next : ℕ) {e f : Pattern} → e ≡ f → Lays t bs (writtenOut f first) base next → Lays t bs (writtenOut e first) base next
+as-tree t bs first base next is h = subst (λ (e : Pattern). Lays t bs (writtenOut e first) base next) (sym is) h
+
+-- one place is inside the part that may change
+one-kept : {base n : ℕ} {t t' : List ℕ} → (n ≡ 0 → ⊥) → Kept base (base + 1) t t' → Kept base (base + n) t t'
+one-kept {base} {n} {t} {t'} some k = kept-both base (base + n) k (kept-none base base t') (omega arith) (one-more n some) (omega arith) (omega arith)
+  where
+    one-more : (n : ℕ) → (n ≡ 0 → ⊥) → base + 1 ≤ base + n
+    one-more zero some = absurd (some refl)
+    one-more (suc n) some = omega arith
+
+pub stop-laid : {bs : List ℕ} {at stop base next first n kind : ℕ} {t t' : List ℕ} → (n ≡ 0 → ⊥) → kind ≡ kindAt bs at → kind ≡ 0 → Put t base 8 0 0 0 t'
+    → OneLaid bs at stop base next first n t t'
+stop-laid {bs} {at} {base = base} {next = next} {first = first} {t' = t'} some ek none put =
+    record {
+      kept = one-kept some (put .kept);
+      laid = λ m. as-tree t' bs first base next (nothing-view (m .tree) bs at (m .inside .stand) (sym ek ∙ none)) (put-holds bs put (omega arith) (λ e. absurd (omega arith)));
+    }
+
+-- the pairs of a set, by the bytes of its body
+pub set-fits : {bs : List ℕ} {at stop base next first n kind : ℕ} → One bs at stop base next first n → kind ≡ kindAt bs at → kind ≡ 2
+    → (at + 4 + 2 * ((stop - (at + 4)) / 2) ≤ length bs) × ((stop - (at + 4)) / 2 ≤ 32)
+set-fits {bs} {at} m ek two =
+    let v = set-view (m .tree) bs at (m .inside .stand) (sym ek ∙ two) in
+    (omega (arith, v .pairs .whole, m .inside .end-is, m .inside .ends), omega (arith, v .pairs .whole, v .pairs .few, m .inside .end-is))
+
+pub set-laid : {bs : List ℕ} {at stop base next first n kind : ℕ} {t t' : List ℕ} → One bs at stop base next first n → (n ≡ 0 → ⊥)
+    → kind ≡ kindAt bs at → kind ≡ 2 → Put t base 6 next (at + 4) ((stop - (at + 4)) / 2) t' → OneLaid bs at stop base next first n t t'
+set-laid {bs} {at} {stop} {base} {next} {first} {t' = t'} m0 some ek two put =
+    record {
+      kept = one-kept some (put .kept);
+      laid = λ m.
+          let v = set-view (m .tree) bs at (m .inside .stand) (sym ek ∙ two) in
+          let half : at + 4 + 2 * ((stop - (at + 4)) / 2) ≡ bodyEnd bs at = omega (arith, v .pairs .whole, m .inside .end-is) in
+          let ranges : rangesOf (part bs (at + 4) (at + 4 + 2 * ((stop - (at + 4)) / 2))) ≡ v .ranges =
+          ap (λ (e : ℕ). rangesOf (part bs (at + 4) e)) half ∙ v .pairs .found in
+          as-tree t' bs first base next (v .is)
+          (subst (λ (r : List Range). Holds t' bs base (set r next)) ranges (put-holds bs put (omega arith) (λ e. set-fits m0 ek two)));
+    }
+
+-- a group: its open, what it holds, its close
+abbrev pub group-one : {bs : List ℕ} {at stop base next first n kind : ℕ} → One bs at stop base next first n → kind ≡ kindAt bs at → kind ≡ 3
+    → One bs (at + 4) stop (base + 1) (base + 1 + (n - 2)) (first + 1) (n - 2)
+group-one {bs} {at} m ek three =
+    let v = group-view (m .tree) bs at (m .inside .stand) (sym ek ∙ three) in
+    let e : places (m .tree) ≡ 2 + places (v .inner) = ap places (v .is) in
+    let f : groups (m .tree) ≡ suc (groups (v .inner)) = ap groups (v .is) in
+    record {
+      tree = v .inner;
+      inside = record {
+        stand = v .stand;
+        end-is = v .end-is ∙ m .inside .end-is;
+        ends = m .inside .ends;
+        short = m .inside .short;
+        few = omega (arith, m .inside .few);
+      };
+      places-are = omega (arith, m .places-are);
+      small = omega (arith, m .small);
+      room = omega (arith, m .room, m .places-are);
+      follows = omega (arith, m .room, m .places-are);
+    }
+
+pub group-two : {bs : List ℕ} {at stop base next first n kind : ℕ} → One bs at stop base next first n → kind ≡ kindAt bs at → kind ≡ 3 → 2 ≤ n
+group-two {bs} {at} m ek three =
+    let v = group-view (m .tree) bs at (m .inside .stand) (sym ek ∙ three) in
+    let e : places (m .tree) ≡ 2 + places (v .inner) = ap places (v .is) in
+    omega (arith, m .places-are)
+
+captures-lays : (t bs : List ℕ) (k : ℕ) (e : Core) (base next p : ℕ) → p ≡ size e → Holds t bs base (opening k (entryOf p (base + 1) (base + 1 + p)))
+    → Lays t bs e (base + 1) (base + 1 + p) → Holds t bs (base + 1 + p) (closing k next) → Lays t bs (captures k e) base next
+captures-lays t bs k e base next p ep =
+    subst
+    (λ (p : ℕ). Holds t bs base (opening k (entryOf p (base + 1) (base + 1 + p))) → Lays t bs e (base + 1) (base + 1 + p)
+    → Holds t bs (base + 1 + p) (closing k next) → Lays t bs (captures k e) base next)
+    (sym ep)
+    (λ a b c. (a, b, c))
+
+pub group-laid : {bs : List ℕ} {at stop base next first n kind : ℕ} {t t1 t2 : List ℕ} → One bs at stop base next first n → kind ≡ kindAt bs at
+    → kind ≡ 3 → HeadLaid bs (at + 4) stop 1 first 0 base (base + 1 + (n - 2)) (first + 1) (n - 2) t t1
+    → Put t1 (base + 1 + (n - 2)) 2 next first 0 t2 → OneLaid bs at stop base next first n t t2
+group-laid {bs} {at} {stop} {base} {next} {first} {n} {t2 = t2} m0 ek three h put =
+    record {
+      kept = kept-both base (base + n) (h .kept) (put .kept) (omega arith) (omega (arith, group-two m0 ek three)) (omega arith)
+          (omega (arith, group-two m0 ek three));
+      laid = λ m.
+          let o = group-one m ek three in
+          let v = group-view (m .tree) bs at (m .inside .stand) (sym ek ∙ three) in
+          let e = writtenOut (v .inner) (first + 1) in
+          let ep : n - 2 ≡ size e = o .places-are ∙ sym (size-places (v .inner) (first + 1)) in
+          as-tree t2 bs first base next (v .is)
+          (subst (λ (k : ℕ). Lays t2 bs (captures first (writtenOut (v .inner) k)) base next) (add-one first)
+          (captures-lays t2 bs first e base next (n - 2) ep (holds-kept (put .kept) (omega arith) (h .head))
+          (lays-kept e bs (base + 1) (base + 1 + (n - 2)) (put .kept) (omega arith) (h .laid o)) (plain-holds bs put (omega arith))));
+    }
+
+-- a repeat
+abbrev pub repeat-ask : {bs : List ℕ} {at stop base next first n kind : ℕ} → One bs at stop base next first n → (n ≡ 0 → ⊥) → kind ≡ kindAt bs at
+    → kind ≡ 6 → Repeat bs (at + 4) stop base next first
+repeat-ask {bs} {at} {n = n} m some ek six =
+    let v = repeat-view (m .tree) bs at (m .inside .stand) (sym ek ∙ six) in
+    let e : places (m .tree) ≡ repeatPlaces (v .least) (v .upper) (places (v .inner)) = ap places (v .is) in
+    let f : groups (m .tree) ≡ groups (v .inner) = ap groups (v .is) in
+    record {
+      least = v .least;
+      upper = v .upper;
+      mode = v .mode;
+      tree = v .inner;
+      numbers = v .numbers;
+      inside = record {
+        stand = v .stand;
+        end-is = v .end-is ∙ m .inside .end-is;
+        ends = m .inside .ends;
+        short = m .inside .short;
+        few = omega (arith, m .inside .few);
+      };
+      small = omega (arith, m .small, m .places-are, repeat-more (v .least) (v .upper) (places (v .inner)) (v .numbers .right) (positive some (m .places-are ∙ e)));
+      room = omega (arith, m .room, m .places-are);
+      follows = m .follows;
+    }
+  where
+    positive : {a b : ℕ} → (a ≡ 0 → ⊥) → a ≡ b → 0 < b
+    positive {b = zero} not e = absurd (not e)
+    positive {b = suc b} not e = omega arith
+
+pub repeat-laid : {bs : List ℕ} {at stop base next first n kind : ℕ} {t t' : List ℕ} → One bs at stop base next first n → (n ≡ 0 → ⊥)
+    → kind ≡ kindAt bs at → kind ≡ 6 → RepeatLaid bs (at + 4) stop base next first t t' → OneLaid bs at stop base next first n t t'
+repeat-laid {bs} {at} {stop} {base} {next} {first} {n} {t = t} {t' = t'} m0 some ek six r =
+    let v0 = repeat-view (m0 .tree) bs at (m0 .inside .stand) (sym ek ∙ six) in
+    record {
+      kept = subst (λ (k : ℕ). Kept base (base + k) t t') (sym (m0 .places-are ∙ ap places (v0 .is))) (r .kept (repeat-ask m0 some ek six));
+      laid = λ m. as-tree t' bs first base next (repeat-view (m .tree) bs at (m .inside .stand) (sym ek ∙ six) .is) (r .laid (repeat-ask m some ek six));
+    }
+
+-- a sequence or an alternation: any other record that has places
+module _ {bs : List ℕ} {at stop base next first n kind : ℕ} (some : n ≡ 0 → ⊥) (ek : kind ≡ kindAt bs at) (k0 : kind ≡ 0 → ⊥) (k2 : kind ≡ 2 → ⊥)
+    (k3 : kind ≡ 3 → ⊥) (k6 : kind ≡ 6 → ⊥) where
+  pub row-of : (m : One bs at stop base next first n) → RowView bs at (eqb kind 5) (m .tree)
+  row-of m =
+      subst (λ (k : ℕ). RowView bs at (eqb k 5) (m .tree)) (sym ek)
+      (row-view (m .tree) bs at (m .inside .stand) (λ e. some (m .places-are ∙ e)) (λ e. k0 (ek ∙ e)) (λ e. k2 (ek ∙ e)) (λ e. k3 (ek ∙ e))
+      (λ e. k6 (ek ∙ e)))
+
+  abbrev pub row-ask : One bs at stop base next first n → Several bs (at + 4) stop (eqb kind 5) base next first n
+  row-ask m =
+      let v = row-of m in
+      record {
+        records = v .records;
+        stand = subst (λ (e : ℕ). Row bs (at + 4) e (v .records)) (m .inside .end-is) (v .stand);
+        some = omega (arith, row-long (v .records) bs (at + 4) (bodyEnd bs at) (v .stand), v .several, m .inside .end-is);
+        ends = m .inside .ends;
+        short = m .inside .short;
+        few = omega (arith, m .inside .few, v .groups-are);
+        places-are = m .places-are ∙ v .places-are;
+        small = m .small;
+        room = m .room;
+        follows = m .follows;
+      }
+
+  pub row-laid : {t t' : List ℕ} → SeveralLaid bs (at + 4) stop (eqb kind 5) base next first n t t' → OneLaid bs at stop base next first n t t'
+  row-laid {t' = t'} r =
+      record { kept = r .kept; laid = λ m. subst (λ (c : Core). Lays t' bs c base next) (sym (row-of m .written first)) (r .laid (row-ask m)) }
+
+-- the last record of a row, and one with others behind it
+pub record Last (bs : List ℕ) (at stop first n : ℕ) (es : List Pattern) : Type 0 where
+  pub tree : Pattern
+  pub is : es ≡ tree ∷ []
+  pub stand : Stands bs at tree
+  pub places-are : n ≡ places tree
+  pub few : first + groups tree ≤ 10
+
+pub record More (bs : List ℕ) (at stop : ℕ) (forks : Bool) (first n : ℕ) (es : List Pattern) : Type 0 where
+  pub tree : Pattern
+  pub second : Pattern
+  pub others : List Pattern
+  pub is : es ≡ tree ∷ second ∷ others
+  pub stand : Stands bs at tree
+  pub rest : Row bs (bodyEnd bs at) stop (second ∷ others)
+  pub places-are : n ≡ rowPlaces forks (tree ∷ second ∷ others)
+  pub few : first + groupsIn (tree ∷ second ∷ others) ≤ 10
+
+last-of : {bs : List ℕ} {at stop first n : ℕ} (forks : Bool) (es : List Pattern) → Row bs at stop es → at < stop → n ≡ rowPlaces forks es
+    → first + groupsIn es ≤ 10 → bodyEnd bs at ≡ stop → Last bs at stop first n es
+last-of forks [] h lt p g e = absurd (omega arith)
+last-of false (x ∷ []) h lt p g e = record { tree = x; is = refl; stand = h .0; places-are = omega arith; few = omega arith }
+last-of true (x ∷ []) h lt p g e = record { tree = x; is = refl; stand = h .0; places-are = omega arith; few = omega arith }
+last-of {bs} {at} {stop} forks (x ∷ y ∷ es) h lt p g e = absurd (omega (arith, row-long (y ∷ es) bs (bodyEnd bs at) stop (h .1)))
+
+more-of : {bs : List ℕ} {at stop first n : ℕ} (forks : Bool) (es : List Pattern) → Row bs at stop es → at < stop → n ≡ rowPlaces forks es
+    → first + groupsIn es ≤ 10 → (bodyEnd bs at ≡ stop → ⊥) → More bs at stop forks first n es
+more-of forks [] h lt p g e = absurd (omega arith)
+more-of forks (x ∷ []) h lt p g e = absurd (e (h .1))
+more-of forks (x ∷ y ∷ es) h lt p g e = record { tree = x; second = y; others = es; is = refl; stand = h .0; rest = h .1; places-are = p; few = g }
+
+-- `row`, the last record
+module _ {bs : List ℕ} {at stop base next first n end : ℕ} {forks : Bool} (ee : end ≡ bodyEnd bs at) (es : end ≡ stop) where
+  pub last : (m : Several bs at stop forks base next first n) → Last bs at stop first n (m .records)
+  last m = last-of forks (m .records) (m .stand) (m .some) (m .places-are) (m .few) (sym ee ∙ es)
+
+  abbrev pub last-one : Several bs at stop forks base next first n → One bs at stop base next first n
+  last-one m =
+      let v = last m in
+      record {
+        tree = v .tree;
+        inside = record { stand = v .stand; end-is = sym ee ∙ es; ends = m .ends; short = m .short; few = v .few };
+        places-are = v .places-are;
+        small = m .small;
+        room = m .room;
+        follows = m .follows;
+      }
+
+  pub last-laid : {t t' : List ℕ} → OneLaid bs at stop base next first n t t' → SeveralLaid bs at stop forks base next first n t t'
+  last-laid {t' = t'} o =
+      record {
+        kept = o .kept;
+        laid = λ m. subst (λ (r : List Pattern). Lays t' bs (rowCore forks r first) base next) (sym (last m .is)) (o .laid (last-one m));
+      }
+
+-- `row`, a record with others behind it: what it adds up to
+module _ {bs : List ℕ} {at stop base next first n end : ℕ} {forks : Bool} (ee : end ≡ bodyEnd bs at) (es : end ≡ stop → ⊥) where
+  pub more : (m : Several bs at stop forks base next first n) → More bs at stop forks first n (m .records)
+  more m = more-of forks (m .records) (m .stand) (m .some) (m .places-are) (m .few) (λ e. es (ee ∙ e))
+
+  abbrev pub more-counting : Several bs at stop forks base next first n → Counting bs at end
+  more-counting m =
+      let v = more m in
+      record {
+        records = v .tree ∷ [];
+        stand = (v .stand, sym ee);
+        ends = omega (arith, ee, row-long (v .second ∷ v .others) bs (bodyEnd bs at) stop (v .rest), m .ends);
+        short = m .short;
+        few = omega (arith, v .few);
+      }
+
+  pub more-small : (m : Several bs at stop forks base next first n) → places (more m .tree) + placesIn (more m .second ∷ more m .others) ≤ n
+  more-small m = least forks (more m .tree ∷ more m .second ∷ more m .others) (more m .places-are)
+    where
+      least : (f : Bool) (es : List Pattern) → n ≡ rowPlaces f es → placesIn es ≤ n
+      least false es e = omega arith
+      least true es e = omega arith
+
+  pub more-places : {p g k : ℕ} → Counted bs at end p g k → (m : Several bs at stop forks base next first n) → p ≡ places (more m .tree)
+  more-places c m = omega (arith, c .sums (more-counting m) .places-are (omega (arith, more-small m, m .small)))
+
+  pub more-groups : {p g k : ℕ} → Counted bs at end p g k → (m : Several bs at stop forks base next first n) → g ≡ groups (more m .tree)
+  more-groups c m = omega (arith, c .sums (more-counting m) .groups-are)
+
+  pub more-few : {p g k : ℕ} → Counted bs at end p g k → (m : Several bs at stop forks base next first n) → first + g ≤ 10
+  more-few c m = omega (arith, more m .few, more-groups c m)
+
+chain-lays : (t bs : List ℕ) (a b : Core) (base next p v : ℕ) → p ≡ size a → v ≡ entryOf (size b) (base + p) next → Lays t bs a base v
+    → Lays t bs b (base + p) next → Lays t bs (chain a b) base next
+chain-lays t bs a b base next p v ep ev =
+    subst
+    (λ (p : ℕ). v ≡ entryOf (size b) (base + p) next → Lays t bs a base v → Lays t bs b (base + p) next → Lays t bs (chain a b) base next)
+    (sym ep)
+    (λ ev x y. (subst (λ (v : ℕ). Lays t bs a base v) ev x, y))
+    ev
+
+either-lays : (t bs : List ℕ) (a b : Core) (base next p v : ℕ) → p ≡ size a → v ≡ entryOf (size b) (base + 1 + p) next
+    → Holds t bs base (fork (entryOf p (base + 1) next) v) → Lays t bs a (base + 1) next → Lays t bs b (base + 1 + p) next
+    → Lays t bs (either a b) base next
+either-lays t bs a b base next p v ep ev =
+    subst
+    (λ (p : ℕ). v ≡ entryOf (size b) (base + 1 + p) next → Holds t bs base (fork (entryOf p (base + 1) next) v) → Lays t bs a (base + 1) next
+    → Lays t bs b (base + 1 + p) next → Lays t bs (either a b) base next)
+    (sym ep)
+    (λ ev x y z. (subst (λ (v : ℕ). Holds t bs base (fork (entryOf (size a) (base + 1) next) v)) ev x, y, z))
+    ev
+
+-- a record of a sequence, then the others
+module _ {bs : List ℕ} {at stop base next first n end p g k : ℕ} (ee : end ≡ bodyEnd bs at) (es : end ≡ stop → ⊥) (c : Counted bs at end p g k) where
+  pub chain-sum : (m : Several bs at stop false base next first n) → n ≡ p + placesIn (more ee es m .second ∷ more ee es m .others)
+  chain-sum m = omega (arith, more ee es m .places-are, more-places ee es c m)
+
+  abbrev pub chain-one : (v : ℕ) → v ≡ entryOf (n - p) (base + p) next → Several bs at stop false base next first n → One bs at end base v first p
+  chain-one v ev m =
+      let w = more ee es m in
+      record {
+        tree = w .tree;
+        inside = record { stand = w .stand; end-is = sym ee; ends = more-counting ee es m .ends; short = m .short; few = omega (arith, w .few) };
+        places-are = more-places ee es c m;
+        small = omega (arith, chain-sum m, m .small);
+        room = omega (arith, chain-sum m, m .room);
+        follows = omega (arith, ev, entry-small (n - p) (base + p) next {most = 510} (omega (arith, chain-sum m, m .room)) (m .follows));
+      }
+
+  abbrev pub chain-rest : Several bs at stop false base next first n → Several bs end stop false (base + p) next (first + g) (n - p)
+  chain-rest m =
+      let w = more ee es m in
+      record {
+        records = w .second ∷ w .others;
+        stand = subst (λ (e : ℕ). Row bs e stop (w .second ∷ w .others)) (sym ee) (w .rest);
+        some = omega (arith, ee, row-long (w .second ∷ w .others) bs (bodyEnd bs at) stop (w .rest));
+        ends = m .ends;
+        short = m .short;
+        few = omega (arith, w .few, more-groups ee es c m);
+        places-are = omega (arith, chain-sum m);
+        small = omega (arith, m .small);
+        room = omega (arith, chain-sum m, m .room);
+        follows = m .follows;
+      }
+
+  pub chain-laid : {v : ℕ} {t t1 t2 : List ℕ} → v ≡ entryOf (n - p) (base + p) next → Several bs at stop false base next first n
+      → OneLaid bs at end base v first p t t1 → SeveralLaid bs end stop false (base + p) next (first + g) (n - p) t1 t2
+      → SeveralLaid bs at stop false base next first n t t2
+  chain-laid {v} {t} {t1} {t2} ev m0 o r =
+      record {
+        kept = kept-both base (base + n) (o .kept) (r .kept) (omega arith) (omega (arith, chain-sum m0)) (omega arith) (omega (arith, chain-sum m0));
+        laid = λ m.
+            let w = more ee es m in
+            let a = writtenOut (w .tree) first in
+            let b = rowCore false (w .second ∷ w .others) (first + groups (w .tree)) in
+            let ep : p ≡ size a = more-places ee es c m ∙ sym (size-places (w .tree) first) in
+            let eb : n - p ≡ size b = chain-rest m .places-are ∙ sym (row-size false (w .second ∷ w .others) (first + groups (w .tree))) in
+            subst (λ (l : List Pattern). Lays t2 bs (rowCore false l first) base next) (sym (w .is))
+            (chain-lays t2 bs a b base next p v ep (ev ∙ ap (λ (k : ℕ). entryOf k (base + p) next) eb)
+            (lays-kept a bs base v (r .kept) (omega arith) (o .laid (chain-one v ev m)))
+            (subst (λ (k : ℕ). Lays t2 bs (rowCore false (w .second ∷ w .others) (first + k)) (base + p) next) (more-groups ee es c m)
+            (r .laid (chain-rest m))));
+      }
+
+-- a record of an alternation behind its fork, then the others
+module _ {bs : List ℕ} {at stop base next first n end p g k : ℕ} (ee : end ≡ bodyEnd bs at) (es : end ≡ stop → ⊥) (c : Counted bs at end p g k) where
+  pub fork-sum : (m : Several bs at stop true base next first n) → n ≡ 1 + p + rowPlaces true (more ee es m .second ∷ more ee es m .others)
+  fork-sum m = omega (arith, more ee es m .places-are, more-places ee es c m)
+
+  abbrev pub fork-one : Several bs at stop true base next first n → One bs at end (base + 1) next first p
+  fork-one m =
+      let w = more ee es m in
+      record {
+        tree = w .tree;
+        inside = record { stand = w .stand; end-is = sym ee; ends = more-counting ee es m .ends; short = m .short; few = omega (arith, w .few) };
+        places-are = more-places ee es c m;
+        small = omega (arith, fork-sum m, m .small);
+        room = omega (arith, fork-sum m, m .room);
+        follows = m .follows;
+      }
+
+  abbrev pub fork-rest : Several bs at stop true base next first n → Several bs end stop true (base + 1 + p) next (first + g) (n - 1 - p)
+  fork-rest m =
+      let w = more ee es m in
+      record {
+        records = w .second ∷ w .others;
+        stand = subst (λ (e : ℕ). Row bs e stop (w .second ∷ w .others)) (sym ee) (w .rest);
+        some = omega (arith, ee, row-long (w .second ∷ w .others) bs (bodyEnd bs at) stop (w .rest));
+        ends = m .ends;
+        short = m .short;
+        few = omega (arith, w .few, more-groups ee es c m);
+        places-are = omega (arith, fork-sum m);
+        small = omega (arith, m .small);
+        room = omega (arith, fork-sum m, m .room);
+        follows = m .follows;
+      }
+
+  pub fork-laid : {u v : ℕ} {t t1 t2 t3 : List ℕ} → u ≡ entryOf p (base + 1) next → v ≡ entryOf (n - 1 - p) (base + 1 + p) next
+      → Several bs at stop true base next first n → Put t base 0 u v 0 t1 → OneLaid bs at end (base + 1) next first p t1 t2
+      → SeveralLaid bs end stop true (base + 1 + p) next (first + g) (n - 1 - p) t2 t3 → SeveralLaid bs at stop true base next first n t t3
+  fork-laid {u} {v} {t} {t1} {t2} {t3} eu ev m0 put o r =
+      let high = base + n in
+      record {
+        kept = kept-both base high
+            (kept-both base high (put .kept) (o .kept) (omega arith) (omega (arith, fork-sum m0)) (omega arith) (omega (arith, fork-sum m0))) (r .kept)
+            (omega arith) (omega arith) (omega arith) (omega (arith, fork-sum m0));
+        laid = λ m.
+            let w = more ee es m in
+            let a = writtenOut (w .tree) first in
+            let b = rowCore true (w .second ∷ w .others) (first + groups (w .tree)) in
+            let ep : p ≡ size a = more-places ee es c m ∙ sym (size-places (w .tree) first) in
+            let eb : n - 1 - p ≡ size b = fork-rest m .places-are ∙ sym (row-size true (w .second ∷ w .others) (first + groups (w .tree))) in
+            subst (λ (l : List Pattern). Lays t3 bs (rowCore true l first) base next) (sym (w .is))
+            (either-lays t3 bs a b base next p v ep (ev ∙ ap (λ (k : ℕ). entryOf k (base + 1 + p) next) eb)
+            (subst (λ (u : ℕ). Holds t3 bs base (fork u v)) eu
+            (holds-kept (r .kept) (omega arith) (holds-kept (o .kept) (omega arith) (plain-holds bs put (omega arith)))))
+            (lays-kept a bs (base + 1) next (r .kept) (omega arith) (o .laid (fork-one m)))
+            (subst (λ (k : ℕ). Lays t3 bs (rowCore true (w .second ∷ w .others) (first + k)) (base + 1 + p) next) (more-groups ee es c m)
+            (r .laid (fork-rest m))));
+      }
+
+-- the first record of a row ends inside the holder
+pub row-header : {bs : List ℕ} {at stop base next first n : ℕ} {forks : Bool} → Several bs at stop forks base next first n → bodyEnd bs at ≤ stop
+row-header {bs} {at} {stop} m = on (m .records) (m .stand) (m .some)
+  where
+    on : (es : List Pattern) → Row bs at stop es → at < stop → bodyEnd bs at ≤ stop
+    on [] h lt = absurd (omega arith)
+    on (e ∷ es) h lt = omega (arith, row-long es bs (bodyEnd bs at) stop (h .1))
