@@ -7,6 +7,13 @@ ghost use lib.Dec.{ltb};
 ghost use lib.ListN.{length, replicate};
 ghost use Rattle.run.specs.Steps.{Stepping, Steps, Running, Runs};
 
+// How the machine stopped, with the steps made and, where it matched, the winner's rows.
+pub struct Ran {
+    pub matched: bool,
+    pub steps: u32,
+    pub rows: [u16; 20],
+}
+
 // Makes every entry of a table 0.
 pub fn wipe(table: &mut [u16])
     ensures { λ _. ⌜ now (table .exit) ≡ replicate (length (now (table .entry))) 0 ⌝ }
@@ -72,4 +79,102 @@ pub fn step(
         goes = more(done, i, number);
     }
     Visited { count, steps, done }
+}
+
+// Whether the run goes on behind a position: no thread has won, some are carried, and the line has a byte there.
+pub fn proceeds(done: bool, number: usize, at: usize, end: usize) -> bool
+    ensures { λ r. ⌜ r ≡ (not done && (ltb 0 number && ltb at end)) ⌝ }
+{
+    if done {
+        false
+    } else if 0 < number {
+        at < end
+    } else {
+        false
+    }
+}
+
+// The machine from a position of the line on, started with one thread at the first place. The two lists are exchanged at each position.
+pub fn run(
+    code: &[u16],
+    pattern: &[u8],
+    line: &[u8],
+    seen: &mut [u16],
+    taken: &mut [u16],
+    one: &mut [u16],
+    other: &mut [u16],
+    places: usize,
+    start: u16,
+) -> Ran
+    requires { ⌜ Running (now code) (now pattern) (now line) places start (now seen) (now taken) (now one) (now other) ⌝ }
+    ensures { λ r. ⌜ Runs (now (code .entry)) (now (pattern .entry)) (now (line .entry)) places start (length (now (seen .entry))) (r .matched) (r .steps) (r .rows) ⌝ }
+{
+    wipe(seen);
+    wipe(taken);
+    let absent = [65535u16; 20];
+    visit::store(one, 0, 0, absent);
+    let mut at = start;
+    let mut number = 1;
+    let mut steps = 0;
+    let mut matched = false;
+    let mut even = true;
+    let mut goes = true;
+    while goes {
+        if even {
+            let r = step(
+                code,
+                pattern,
+                line,
+                seen,
+                taken,
+                one,
+                number,
+                other,
+                places,
+                at,
+                steps,
+            );
+            number = r.count;
+            steps = r.steps;
+            matched = r.done;
+            goes = proceeds(matched, number, visit::wide(at), line.len());
+            at = at + 1;
+            even = false;
+        } else {
+            let r = step(
+                code,
+                pattern,
+                line,
+                seen,
+                taken,
+                other,
+                number,
+                one,
+                places,
+                at,
+                steps,
+            );
+            number = r.count;
+            steps = r.steps;
+            matched = r.done;
+            goes = proceeds(matched, number, visit::wide(at), line.len());
+            at = at + 1;
+            even = true;
+        }
+    }
+    if even {
+        let rows = visit::load(one, number);
+        Ran {
+            matched,
+            steps,
+            rows,
+        }
+    } else {
+        let rows = visit::load(other, number);
+        Ran {
+            matched,
+            steps,
+            rows,
+        }
+    }
 }
