@@ -36,6 +36,7 @@ pub mod Tree
 pub mod Grown
 pub mod Sizes
 pub mod Unfold
+pub mod Static
 pub mod Unseen
 pub mod Visit
 pub mod Run
