@@ -46,4 +46,6 @@ pub mod Nested
 pub mod Reached
 pub mod MovedMachine
 pub mod ScanTurns
+pub mod ScanWays
+pub mod ScanLengths
 pub mod ReplaceBound
