@@ -1,6 +1,7 @@
 -- The whole check: the length, the walk, the bytes behind the record and the places, one law a way out; and the promise allows one answer only.
 use Prim.Native.Nat.{ℕ, _+_, _≤_, _<_}
-use mathlib.Core.Path.{_≡_, refl, sym, ap, _∙_}
+use mathlib.Core.Path.{_≡_, refl, sym, ap, subst, _∙_}
+use mathlib.Core.Logic.{_↔_}
 use mathlib.Core.List.{List}
 use native.Mathlib.Omega.{arith}
 use lib.Dec.{leb, eqb}
@@ -9,7 +10,10 @@ use borrow.Author.Tests.{le-leb, lt-leb, eq-eqb, ne-eqb}
 use Rattle.paper.specs.Limits.{patternBytes, patternLevels, patternPlaces}
 use Rattle.paper.specs.Refusal.{Checked, refused, accepted, _>>=_, _>>_, holds, patternTooLong, brokenRecord, tooManyPlaces}
 use Rattle.paper.specs.Pattern.{Pattern, places, depth, groups, allPlaces}
+use Rattle.paper.specs.Layout.{recordOf, Lawful}
 use Rattle.paper.specs.Check.{bodyEnd, walkRecord, Numbers, numbersOf, check}
+use Rattle.paper.proofs.Standing.{Bytes}
+use Rattle.paper.proofs.Lawful.{check-exactly}
 use Rattle.pattern.specs.Walk.{capped}
 use Rattle.pattern.specs.Answer.{answerOf, Checks}
 use Rattle.pattern.specs.declared.Answer.{Answer}
@@ -58,6 +62,15 @@ module _ (bs : List ℕ) where
             let n : counted + 1 ≡ allPlaces e = omega arith in
             let k : total ≡ groups e = omega arith in
             rw (le-leb (length bs) patternBytes short, eq-eqb (bodyEnd bs 0) (length bs) (omega (arith, f .ends)), le-leb (allPlaces e) patternPlaces (omega arith), n, d, k)
+
+-- an answer that is the definition's keeps the whole promise
+pub promised : {bs : List ℕ} {r : Answer} → Bytes bs → answerOf r ≡ check bs → Checks bs r
+promised {bs} {r} small q = record {
+  answer = q;
+  lawful = λ numbers. subst
+      (λ (told : Checked Numbers). (told ≡ accepted numbers) ↔ ((e : Pattern) × Lawful e × (recordOf e ≡ bs) × (numbersOf e ≡ numbers)))
+      (sym q) (check-exactly bs small numbers);
+}
 
 -- no two answers are read alike
 pub answers-differ : (a b : Answer) → answerOf a ≡ answerOf b → a ≡ b

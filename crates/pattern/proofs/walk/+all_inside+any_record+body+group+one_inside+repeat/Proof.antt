@@ -396,7 +396,6 @@ body-returns-7 t c =
     let the-args = c .before .before .before .args in
     let the-pre = c .before .before .before .pre in
     let the-repeat = c .repeat in
-   
     let not = the-match .rest in
     rw (last-kind (the-args .kind) (the-pre .1 .2) (not .0 .0 .0 .0 .0 .1) (not .0 .0 .0 .0 .1) (not .0 .0 .0 .1) (not .0 .0 .1) (not .0 .1) (not .1)) (the-repeat .ensures)
 
