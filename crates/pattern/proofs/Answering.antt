@@ -2,6 +2,7 @@
 use Prim.Native.Nat.{ℕ, _+_, _≤_, _<_}
 use mathlib.Core.Path.{_≡_, refl, sym, ap, subst, _∙_}
 use mathlib.Core.Logic.{_↔_}
+use mathlib.Core.Bool.{true}
 use mathlib.Core.List.{List}
 use native.Mathlib.Omega.{arith}
 use lib.Dec.{leb, eqb}
@@ -14,11 +15,13 @@ use Rattle.paper.specs.Layout.{recordOf, Lawful}
 use Rattle.paper.specs.Check.{bodyEnd, walkRecord, Numbers, numbersOf, check}
 use Rattle.paper.proofs.Standing.{Bytes}
 use Rattle.paper.proofs.Lawful.{check-exactly}
-use Rattle.pattern.specs.Walk.{capped}
+use Rattle.pattern.specs.Walk.{capped, told}
 use Rattle.pattern.specs.Answer.{answerOf, Checks}
 use Rattle.pattern.specs.declared.Answer.{Answer}
 use Rattle.pattern.specs.declared.Answer.the-variants.{Refused, Accepted}
-use Rattle.pattern.proofs.Walking.{Found}
+use Rattle.pattern.specs.declared.walk.Walked.the-variants as Walked
+use Rattle.pattern.specs.declared.walk.Walked.the-variants.{Record}
+use Rattle.pattern.proofs.Walking.{Found, tree-of, fault-of}
 
 -- the check from what the walk found
 abbrev judged : List ℕ → Checked Pattern → Checked Numbers
@@ -29,39 +32,51 @@ judged bs found =
     (holds (leb (allPlaces e) patternPlaces) tooManyPlaces 0 >> accepted e)) >>= λ e.
     accepted (numbersOf e)
 
-module _ (bs : List ℕ) where
-  walk-judged : judged bs (walkRecord patternLevels bs 0 (length bs) 0) ≡ check bs
-  walk-judged = refl
+-- what the walk finds in the outermost record
+abbrev pub outermost : List ℕ → Checked Pattern
+outermost bs = walkRecord patternLevels bs 0 (length bs) 0
 
+module _ (bs : List ℕ) where
+  -- 1
   pub too-long : patternBytes < length bs → refused patternTooLong 0 ≡ check bs
   too-long lt = rw (lt-leb (length bs) patternBytes lt)
 
   module _ (short : length bs ≤ patternBytes) where
-    pub walk-fault : {number place : ℕ} → walkRecord patternLevels bs 0 (length bs) 0 ≡ refused number place → refused number place ≡ check bs
-    walk-fault q = rw (le-leb (length bs) patternBytes short, q)
+    -- 2 to 7 in the walk
+    pub walk-fault : {number place : ℕ} → Walked.Refused number place ≡ told (bodyEnd bs 0) 0 (outermost bs) → refused number place ≡ check bs
+    walk-fault q = rw (le-leb (length bs) patternBytes short, fault-of (bodyEnd bs 0) 0 (outermost bs) q)
 
-    module _ {after counted deep total : ℕ} (f : Found (bodyEnd bs 0) 0 (walkRecord patternLevels bs 0 (length bs) 0) after counted deep total) where
-      tree-judged : judged bs (accepted (f .tree)) ≡ check bs
-      tree-judged = sym (ap (judged bs) (f .is))
+    module _ {after counted deep total : ℕ} (q : Record after counted deep total ≡ told (bodyEnd bs 0) 0 (outermost bs)) where
+      found : Found (bodyEnd bs 0) 0 (outermost bs) after counted deep total
+      found = tree-of (outermost bs) q
 
+      tree-judged : judged bs (accepted (found .tree)) ≡ check bs
+      tree-judged = sym (ap (judged bs) (found .is))
+
+      -- 2 behind the outermost record
       pub bytes-after : after < length bs → refused brokenRecord after ≡ check bs
-      bytes-after lt = rw (f .ends) (judge (f .tree)) ∙ tree-judged where
+      bytes-after lt = ap (refused brokenRecord) (found .ends) ∙ judge (found .tree) ∙ tree-judged where
         judge : (e : Pattern) → refused brokenRecord (bodyEnd bs 0) ≡ judged bs (accepted e)
-        judge e = rw (le-leb (length bs) patternBytes short, ne-eqb (bodyEnd bs 0) (length bs) (λ q. omega (arith, f .ends)))
+        judge e = rw (le-leb (length bs) patternBytes short, ne-eqb (bodyEnd bs 0) (length bs) (λ q. omega (arith, found .ends)))
 
-      pub too-many : length bs ≤ after → after ≤ length bs → patternPlaces ≤ counted → refused tooManyPlaces 0 ≡ check bs
-      too-many le ge many = judge (f .tree) (f .places-right) ∙ tree-judged where
-        judge : (e : Pattern) → counted ≡ capped (places e) → refused tooManyPlaces 0 ≡ judged bs (accepted e)
-        judge e p =
-            rw (le-leb (length bs) patternBytes short, eq-eqb (bodyEnd bs 0) (length bs) (omega (arith, f .ends)), lt-leb (allPlaces e) patternPlaces (omega arith))
+      module _ (le : length bs ≤ after) (ge : after ≤ length bs) where
+        ended : eqb (bodyEnd bs 0) (length bs) ≡ true
+        ended = eq-eqb (bodyEnd bs 0) (length bs) (omega (arith, found .ends))
 
-      pub taken : length bs ≤ after → after ≤ length bs → counted < patternPlaces → answerOf (Accepted (counted + 1) deep total) ≡ check bs
-      taken le ge few = judge (f .tree) (f .places-right) (f .depth-right) (f .groups-right) ∙ tree-judged where
-        judge : (e : Pattern) → counted ≡ capped (places e) → deep ≡ depth e → total ≡ 0 + groups e → answerOf (Accepted (counted + 1) deep total) ≡ judged bs (accepted e)
-        judge e p d g =
-            let n : counted + 1 ≡ allPlaces e = omega arith in
-            let k : total ≡ groups e = omega arith in
-            rw (le-leb (length bs) patternBytes short, eq-eqb (bodyEnd bs 0) (length bs) (omega (arith, f .ends)), le-leb (allPlaces e) patternPlaces (omega arith), n, d, k)
+        -- 8
+        pub too-many : patternPlaces ≤ counted → refused tooManyPlaces 0 ≡ check bs
+        too-many many = judge (found .tree) (found .places-right) ∙ tree-judged where
+          judge : (e : Pattern) → counted ≡ capped (places e) → refused tooManyPlaces 0 ≡ judged bs (accepted e)
+          judge e p = rw (le-leb (length bs) patternBytes short, ended, lt-leb (allPlaces e) patternPlaces (omega arith))
+
+        pub taken : counted < patternPlaces → answerOf (Accepted (counted + 1) deep total) ≡ check bs
+        taken few = judge (found .tree) (found .places-right) (found .depth-right) (found .groups-right) ∙ tree-judged where
+          judge : (e : Pattern) → counted ≡ capped (places e) → deep ≡ depth e → total ≡ 0 + groups e
+              → answerOf (Accepted (counted + 1) deep total) ≡ judged bs (accepted e)
+          judge e p d g =
+              let n : counted + 1 ≡ allPlaces e = omega arith in
+              let k : total ≡ groups e = omega arith in
+              rw (le-leb (length bs) patternBytes short, ended, le-leb (allPlaces e) patternPlaces (omega arith), n, d, k)
 
 -- an answer that is the definition's keeps the whole promise
 pub promised : {bs : List ℕ} {r : Answer} → Bytes bs → answerOf r ≡ check bs → Checks bs r

@@ -66,8 +66,8 @@ optional-passes least (upTo most) = ⊎-elim (λ lt. lt-ltb 0 (most - least) (om
 optional-passes least noEnd = refl
 
 -- no product in the count of a repeat overflows
-pub pass-bound : (n k e : ℕ) → n ≤ repeatCount → k ≤ 3 → e ≤ patternPlaces → n * (k + e) ≤ 255 * 503
-pass-bound n k e few small le = let h : k + e ≤ 503 = omega arith in mul-le-mul few h
+pub pass-bound : (n k e : ℕ) → n ≤ repeatCount → k ≤ 3 → e ≤ patternPlaces → n * (k + e) ≤ repeatCount * (3 + patternPlaces)
+pass-bound n k e few small le = let h : k + e ≤ 3 + patternPlaces = omega arith in mul-le-mul few h
 
 -- ---- the three numbers of a repeat
 

@@ -1,5 +1,5 @@
 -- How the walk's answers are put together: from what is found inside a record to what is found in it, one law a way out of each function.
-use Prim.Native.Nat.{ℕ, zero, suc, _+_, _-_, _*_, _^_, _≤_, _<_, min, max}
+use Prim.Native.Nat.{ℕ, zero, suc, _+_, _-_, _*_, _≤_, _<_, min, max}
 use mathlib.Core.Path.{_≡_, refl, ap, sym, subst, _∙_}
 use mathlib.Core.Bool.{Bool, true, false, cond}
 use mathlib.Core.List.{List, [], _∷_}
@@ -14,7 +14,7 @@ use Rattle.paper.specs.Limits.{patternBytes, patternLevels, patternGroups, patt
 use Rattle.paper.specs.Refusal.{Checked, refused, accepted, _>>=_, _>>_, holds, brokenRecord, unknownKind, tooDeep, tooManyGroups, repeatWrong, setWrong}
 use Rattle.paper.specs.Pattern.{Mode, Upper, upTo, noEnd, Pattern, Members, places, depth, groups, count, placesOfAll, depthOfAll, groupsOfAll}
 use Rattle.paper.specs.Pattern.Pattern.{bytes, group, sequence, alternation, repeat}
-use Rattle.paper.specs.Layout.{Kind, kinds, groupKind, repeatKind}
+use Rattle.paper.specs.Layout.{Kind, kinds, kindNumber, groupKind, repeatKind}
 use Rattle.paper.specs.Check.{Walk, numberAt, bodyLength, bodyStart, bodyEnd, kindAt, kindAmong, bare, byteSet, part, setRight, rangesOf, body, single, membersFrom, atLeastTwo, walkRecord, repeatNumbersRight, upperOf, modeOf, repeatHead}
 use Rattle.pattern.specs.Walk.{capped, optionalPasses, passPlaces, placesIn, depthIn, groupsIn, told, toldAll, leafOf, groupOf, repeatOf, severalOf, ofKind, membersOf, Within, AllWithin, Tells, TellsAll}
 use Rattle.pattern.specs.declared.walk.Walked.{Walked}
@@ -55,8 +55,8 @@ wider (Refused number place) s l w = tt
 wider (Record end places depth groups) s l w = omega arith
 
 -- the bounds that the counting asks for
-pub bounded-record : (end left : ℕ) (w : Walked) → end ≤ patternBytes → left < patternLevels → Within end left w → Within (2 ^ 64) patternLevels w
-bounded-record end left w e l = wider w (omega arith) (omega arith)
+pub bounded-record : (end left : ℕ) (w : Walked) → end ≤ patternBytes → left < patternLevels → Within end left w → Within patternBytes patternLevels w
+bounded-record end left w e l = wider w e (omega arith)
 
 pub bounded-members : (left : ℕ) (w : Several) → left < patternLevels → AllWithin left w → AllWithin patternLevels w
 bounded-members left (Fault number place) l h = tt
@@ -77,18 +77,18 @@ module _ (bs : List ℕ) (at stop before : ℕ) where
   cut-off zero lt = rw (lt-leb (bodyEnd bs at) stop lt)
   cut-off (suc left) lt = rw (lt-leb (bodyEnd bs at) stop lt)
 
-  no-kind : (number : ℕ) → 6 < number → kindAmong kinds number at ≡ refused unknownKind at
+  no-kind : (number : ℕ) → kindNumber repeatKind < number → kindAmong kinds number at ≡ refused unknownKind at
   no-kind number lt =
       simp (ne-eqb number 0 (λ e. omega arith), ne-eqb number 1 (λ e. omega arith), ne-eqb number 2 (λ e. omega arith), ne-eqb number 3 (λ e. omega arith), ne-eqb number 4 (λ e. omega arith), ne-eqb number 5 (λ e. omega arith), ne-eqb number 6 (λ e. omega arith))
 
-  pub kind-unknown : (levels : ℕ) → bodyEnd bs at ≤ stop → 6 < kindAt bs at → walkRecord levels bs at stop before ≡ refused unknownKind at
+  pub kind-unknown : (levels : ℕ) → bodyEnd bs at ≤ stop → kindNumber repeatKind < kindAt bs at → walkRecord levels bs at stop before ≡ refused unknownKind at
   kind-unknown zero le lt = rw (le-leb (bodyEnd bs at) stop le, no-kind (kindAt bs at) lt)
   kind-unknown (suc left) le lt = rw (le-leb (bodyEnd bs at) stop le, no-kind (kindAt bs at) lt)
 
   abbrev deepest : Kind → Checked Pattern
   deepest kind = refused tooDeep at
 
-  too-deep-at : (number : ℕ) → number ≤ 6 → (kindAmong kinds number at >>= deepest) ≡ refused tooDeep at
+  too-deep-at : (number : ℕ) → number ≤ kindNumber repeatKind → (kindAmong kinds number at >>= deepest) ≡ refused tooDeep at
   too-deep-at zero le = refl
   too-deep-at (suc zero) le = refl
   too-deep-at (suc (suc zero)) le = refl
@@ -98,7 +98,7 @@ module _ (bs : List ℕ) (at stop before : ℕ) where
   too-deep-at (suc (suc (suc (suc (suc (suc zero)))))) le = refl
   too-deep-at (suc (suc (suc (suc (suc (suc (suc n))))))) le = absurd (omega arith)
 
-  pub no-level : (levels : ℕ) → levels ≡ 0 → bodyEnd bs at ≤ stop → kindAt bs at ≤ 6 → walkRecord levels bs at stop before ≡ refused tooDeep at
+  pub no-level : (levels : ℕ) → levels ≡ 0 → bodyEnd bs at ≤ stop → kindAt bs at ≤ kindNumber repeatKind → walkRecord levels bs at stop before ≡ refused tooDeep at
   no-level levels z le known = rw (z, le-leb (bodyEnd bs at) stop le, too-deep-at (kindAt bs at) known)
 
   pub one-level : (levels : ℕ) → (levels ≡ 0 → ⊥) → bodyEnd bs at ≤ stop
@@ -107,7 +107,7 @@ module _ (bs : List ℕ) (at stop before : ℕ) where
   one-level (suc left) n le = let e : suc left - 1 ≡ left = omega arith in rw (e, le-leb (bodyEnd bs at) stop le)
 
 -- the kind that is left where all others are ruled out
-pub last-kind : (number : ℕ) → number ≤ 6 → (number ≡ 0 → ⊥) → (number ≡ 1 → ⊥) → (number ≡ 2 → ⊥) → (number ≡ 3 → ⊥) → (number ≡ 4 → ⊥) → (number ≡ 5 → ⊥) → number ≡ 6
+pub last-kind : (number : ℕ) → number ≤ kindNumber repeatKind → (number ≡ 0 → ⊥) → (number ≡ 1 → ⊥) → (number ≡ 2 → ⊥) → (number ≡ 3 → ⊥) → (number ≡ 4 → ⊥) → (number ≡ 5 → ⊥) → number ≡ kindNumber repeatKind
 last-kind zero le a b c d e f = absurd (a refl)
 last-kind (suc zero) le a b c d e f = absurd (b refl)
 last-kind (suc (suc zero)) le a b c d e f = absurd (c refl)

@@ -89,7 +89,7 @@ Within stop levels (Record end places depth groups) = (end ≤ stop) × (places 
 abbrev pub AllWithin : ℕ → Several → Type 0
 AllWithin levels (Fault number place) = Unit {0}
 AllWithin levels (Members count places depth groups) =
-    (count < 65536) × (places ≤ patternPlaces) × (depth ≤ levels) × (groups ≤ patternGroups)
+    (count ≤ patternBytes) × (places ≤ patternPlaces) × (depth ≤ levels) × (groups ≤ patternGroups)
 
 -- what the walk of a record that stands before `stop` promises
 pub record Tells (stop levels end before : ℕ) (found : Checked Pattern) (r : Walked) : Type 0 where

@@ -6,9 +6,9 @@ use crate::counts;
 use crate::sets;
 use records::Header;
 ghost use mathlib.Core.Path.{_≡_};
-ghost use Prim.Native.Nat.{ℕ, _+_, _*_, _^_, _≤_, _<_};
-ghost use Rattle.paper.specs.Limits.{patternPlaces, patternLevels, repeatCount};
-ghost use Rattle.paper.specs.Layout.{groupKind, repeatKind};
+ghost use Prim.Native.Nat.{_+_, _≤_};
+ghost use Rattle.paper.specs.Limits.{patternBytes, patternLevels, repeatCount};
+ghost use Rattle.paper.specs.Layout.{kindNumber, groupKind, repeatKind};
 ghost use Rattle.paper.specs.Check.{bodyStart, bodyEnd, single, body, walkRecord};
 ghost use Rattle.pattern.specs.Walk.{leafOf, groupOf, repeatOf, severalOf, ofKind, membersOf, Within, AllWithin, Tells, TellsAll, Held, Room};
 
@@ -59,7 +59,7 @@ fn leaf(right: bool, number: usize, at: usize, end: usize, places: usize, before
 
 // A group, by what it holds: its two ends are two places more.
 fn as_group(inner: Walked) -> Walked
-    requires { ⌜ Within (2 ^ 64) patternLevels inner ⌝ }
+    requires { ⌜ Within patternBytes patternLevels inner ⌝ }
     ensures { λ r. ⌜ r ≡ groupOf inner ⌝ }
 {
     match inner {
@@ -80,7 +80,7 @@ fn as_group(inner: Walked) -> Walked
 
 // A repeat, by its passes and what it holds.
 fn as_repeat(inner: Walked, least: usize, optional: usize) -> Walked
-    requires { ⌜ (least ≤ repeatCount) × (optional ≤ repeatCount) × Within (2 ^ 64) patternLevels inner ⌝ }
+    requires { ⌜ (least ≤ repeatCount) × (optional ≤ repeatCount) × Within patternBytes patternLevels inner ⌝ }
     ensures { λ r. ⌜ r ≡ repeatOf least optional inner ⌝ }
 {
     match inner {
@@ -174,7 +174,7 @@ fn body(
     left: usize,
     before: usize,
 ) -> Walked
-    requires { ⌜ Room (now s) at end left before × (start ≡ bodyStart at) × (kind ≤ 6) ⌝ }
+    requires { ⌜ Room (now s) at end left before × (start ≡ bodyStart at) × (kind ≤ kindNumber repeatKind) ⌝ }
     ensures { λ r. ⌜ Tells end (left + 1) end before (ofKind kind (walkRecord left (now (s .entry))) (now (s .entry)) at before) r ⌝ }
 {
     match kind {

@@ -6,7 +6,7 @@ ghost use Rattle.paper.specs.Check.{numberAt};
 ghost use Rattle.records.specs.Header.{Shows};
 
 // The bytes before a body: its length and its kind.
-const BEFORE_BODY: usize = 4;
+pub const BEFORE_BODY: usize = 4;
 
 // What stands at an offset: a record that is all there, or one that its holder cuts off.
 pub enum Header {

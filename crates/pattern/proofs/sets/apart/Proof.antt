@@ -1,15 +1,10 @@
 -- `sets::apart` meets its contract. The invariant: whole pairs are left, and they are as right as all of them.
-use Prim.Native.Nat.{_≤_, _-_, _+_}
-use mathlib.Core.Path.{_≡_}
+use Prim.Native.Nat.{_-_}
 use native.Mathlib.Omega.{arith}
 use borrow.Author.Needs.{needs}
-use lib.ListN.{length}
 use Rattle.pattern.proofs.Pairs.{Left, begun, all-apart, too-close, reversed, one-pair}
 use Rattle.pattern.proofs.sets.apart.Statement.{statement}
 use Rattle.pattern.proofs.sets.apart.Tie as tie
-use Rattle.pattern.proofs.sets.apart.Reads as reads
-use Rattle.pattern.proofs.sets.apart.Lts as lts
-use Rattle.records.proofs.wide.Reads as wide-reads
 
 abbrev Inv-loop : tie.InvT-loop
 Inv-loop s start end at₀ floor₀ at floor = Left s start end at floor
@@ -17,34 +12,27 @@ Inv-loop s start end at₀ floor₀ at floor = Left s start end at floor
 abbrev μ-loop : tie.MeasureT-loop
 μ-loop s start end at₀ floor₀ at floor = end - at
 
--- src/sets.rt:16:5
 loop-holds : tie.Need-loop-holds Inv-loop μ-loop
 loop-holds c =
     let the-args = c .before .args in
     let the-pre = c .before .pre in
     begun (the-args .s .now) (the-args .start) (the-args .end) (the-pre .0) (the-pre .1)
 
--- src/sets.rt:17:33
 shared-slice-read-wide : tie.Need-shared-slice-read-wide Inv-loop μ-loop
 shared-slice-read-wide c = search needs
 
--- src/sets.rt:17:13
 wide-requires : tie.Need-wide-requires Inv-loop μ-loop
 wide-requires c κs = search needs
 
--- src/sets.rt:18:36
 add-wide : tie.Need-add-wide Inv-loop μ-loop
 add-wide c = search needs
 
--- src/sets.rt:18:34
 shared-slice-read-wide-2 : tie.Need-shared-slice-read-wide-2 Inv-loop μ-loop
 shared-slice-read-wide-2 c = search needs
 
--- src/sets.rt:18:13
 wide-requires-2 : tie.Need-wide-requires-2 Inv-loop μ-loop
 wide-requires-2 c κs = search needs
 
--- src/sets.rt:20:13
 returns : tie.Need-returns Inv-loop μ-loop
 returns c =
     let the-loop = c .before .before .before .before .before .before .loop in
@@ -52,7 +40,6 @@ returns c =
     let the-loop-test = c .before .before .before .before .before .loop-test in
     too-close (the-loop .inv) (the-pre .2) (the-loop-test .taken) (omega arith)
 
--- src/sets.rt:23:13
 returns-2 : tie.Need-returns-2 Inv-loop μ-loop
 returns-2 c =
     let the-loop = c .before .before .before .before .before .before .before .loop in
@@ -60,19 +47,15 @@ returns-2 c =
     let the-loop-test = c .before .before .before .before .before .before .loop-test in
     reversed (the-loop .inv) (the-pre .2) (the-loop-test .taken) (omega arith) (omega arith)
 
--- src/sets.rt:25:17
 add-floor : tie.Need-add-floor Inv-loop μ-loop
 add-floor c = search needs
 
--- src/sets.rt:26:9
 add-at : tie.Need-add-at Inv-loop μ-loop
 add-at c = search needs
 
--- src/sets.rt:16:5
 loop-less : tie.Need-loop-less Inv-loop μ-loop
 loop-less c = search needs
 
--- src/sets.rt:16:5
 loop-again : tie.Need-loop-again Inv-loop μ-loop
 loop-again c =
     let the-wide2 = c .before .before .wide2 in
@@ -81,7 +64,6 @@ loop-again c =
     let the-loop-test = c .before .before .before .before .before .before .loop-test in
     rw (the-wide2 .ensures .0) (one-pair (the-loop .inv) (the-pre .2) (the-loop-test .taken) (omega arith) (omega arith))
 
--- src/sets.rt:9:1
 returns-3 : tie.Need-returns-3 Inv-loop μ-loop
 returns-3 c =
     let the-loop = c .before .loop in

@@ -5,15 +5,10 @@ use Rattle.pattern.proofs.Pairs.{no-pair, half-pair, many-pairs, few-pa
 use borrow.Author.Needs.{needs}
 use Rattle.pattern.proofs.sets.right.Statement.{statement}
 use Rattle.pattern.proofs.sets.right.Tie as tie
-use Rattle.pattern.proofs.sets.right.Reads as reads
-use Rattle.pattern.proofs.sets.right.Lts as lts
-use Rattle.pattern.proofs.sets.apart.Reads as apart-reads
 
--- src/sets.rt:36:16
 sub-long : tie.Need-sub-long
 sub-long c = search needs
 
--- src/sets.rt:38:9
 returns : tie.Need-returns
 returns c =
     let the-args = c .before .before .args in
@@ -21,7 +16,6 @@ returns c =
     let the-if1 = c .if1 in
     no-pair (the-args .s .now) (the-args .start) (the-args .end) (the-pre .1) (the-if1 .taken)
 
--- src/sets.rt:41:9
 returns-2 : tie.Need-returns-2
 returns-2 c =
     let the-args = c .before .before .before .args in
@@ -29,11 +23,9 @@ returns-2 c =
     let the-if2 = c .if2 in
     half-pair (the-args .s .now) (the-args .start) (the-args .end) (the-pre .1) (the-if2 .taken)
 
--- src/sets.rt:43:8
 mul-if3 : tie.Need-mul-if3
 mul-if3 c = search needs
 
--- src/sets.rt:44:9
 returns-3 : tie.Need-returns-3
 returns-3 c =
     let the-args = c .before .before .before .before .args in
@@ -41,11 +33,9 @@ returns-3 c =
     let the-if3 = c .if3 in
     many-pairs (the-args .s .now) (the-args .start) (the-args .end) (the-pre .1) (omega arith) (the-if3 .taken)
 
--- src/sets.rt:46:5
 apart-requires : tie.Need-apart-requires
 apart-requires c κs = search needs
 
--- src/sets.rt:32:1
 returns-4 : tie.Need-returns-4
 returns-4 c =
     let the-apart = c .apart in

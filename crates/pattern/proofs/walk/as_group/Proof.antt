@@ -1,38 +1,29 @@
 -- `walk::as_group` meets its contract, case by case of what the group holds.
-use Prim.Native.Nat.{_^_}
 use mathlib.Core.Path.{subst}
 use native.Mathlib.Omega.{arith}
-use Rattle.paper.specs.Limits.{patternLevels}
+use Rattle.paper.specs.Limits.{patternBytes, patternLevels}
 use Rattle.pattern.specs.Walk.{Within}
 use borrow.Author.Needs.{needs}
 use Rattle.pattern.proofs.walk.as_group.Statement.{statement}
 use Rattle.pattern.proofs.walk.as_group.Tie as tie
-use Rattle.pattern.proofs.walk.as_group.Reads as reads
-use Rattle.pattern.proofs.walk.as_group.Lts as lts
-use Rattle.pattern.proofs.counts.sum.Reads as sum-reads
 
--- src/walk.rt:63:27
 enum-known-inner : tie.Need-enum-known-inner
 enum-known-inner c = search needs
 
--- src/walk.rt:65:13
 enum-known-inner-2 : tie.Need-enum-known-inner-2
 enum-known-inner-2 c = search needs
 
--- src/walk.rt:71:21
 sum-requires : tie.Need-sum-requires
 sum-requires c κs =
     let the-inner2 = c .before .inner2 in
     let the-pre = c .before .before .before .pre in
-    let h = subst (Within (2 ^ 64) patternLevels) (the-inner2 .given .1) the-pre in omega arith
+    let h = subst (Within patternBytes patternLevels) (the-inner2 .given .1) the-pre in omega arith
 
--- src/walk.rt:58:1
 returns : tie.Need-returns
 returns c =
     let the-inner = c .before .inner in
     rw (the-inner .given .1)
 
--- src/walk.rt:58:1
 returns-2 : tie.Need-returns-2
 returns-2 c =
     let the-inner2 = c .before .before .inner2 in

@@ -1,46 +1,36 @@
 -- `walk::as_repeat` meets its contract, case by case of what the repeat holds.
-use Prim.Native.Nat.{_^_}
 use mathlib.Core.Path.{subst}
 use native.Mathlib.Omega.{arith}
 use borrow.Author.Tests.{lt-ltb, le-ltb}
-use Rattle.paper.specs.Limits.{patternLevels}
+use Rattle.paper.specs.Limits.{patternBytes, patternLevels}
 use Rattle.pattern.specs.Walk.{Within}
 use borrow.Author.Needs.{needs}
 use Rattle.pattern.proofs.walk.as_repeat.Statement.{statement}
 use Rattle.pattern.proofs.walk.as_repeat.Tie as tie
-use Rattle.pattern.proofs.walk.as_repeat.Reads as reads
-use Rattle.pattern.proofs.walk.as_repeat.Lts as lts
-use Rattle.pattern.proofs.counts.passes.Reads as passes-reads
 
--- src/walk.rt:84:27
 enum-known-inner : tie.Need-enum-known-inner
 enum-known-inner c = search needs
 
--- src/walk.rt:86:13
 enum-known-inner-2 : tie.Need-enum-known-inner-2
 enum-known-inner-2 c = search needs
 
--- src/walk.rt:91:17
 passes-requires : tie.Need-passes-requires
 passes-requires c κs =
     let the-inner2 = c .before .inner2 in
     let the-pre = c .before .before .before .pre in
-    let h = subst (Within (2 ^ 64) patternLevels) (the-inner2 .given .1) (the-pre .2) in omega arith
+    let h = subst (Within patternBytes patternLevels) (the-inner2 .given .1) (the-pre .2) in omega arith
 
--- src/walk.rt:96:28
 add-t14 : tie.Need-add-t14
 add-t14 c =
     let the-inner2 = c .before .before .before .inner2 in
     let the-pre = c .before .before .before .before .before .pre in
-    let h = subst (Within (2 ^ 64) patternLevels) (the-inner2 .given .1) (the-pre .2) in omega arith
+    let h = subst (Within patternBytes patternLevels) (the-inner2 .given .1) (the-pre .2) in omega arith
 
--- src/walk.rt:79:1
 returns : tie.Need-returns
 returns c =
     let the-inner = c .before .inner in
     rw (the-inner .given .1)
 
--- src/walk.rt:79:1
 returns-2 : tie.Need-returns-2
 returns-2 c =
     let the-inner2 = c .before .before .before .inner2 in
@@ -48,7 +38,6 @@ returns-2 c =
     let the-if1 = c .if1 in
     rw (the-inner2 .given .1, the-passes .ensures, lt-ltb _ _ (the-if1 .taken))
 
--- src/walk.rt:79:1
 returns-3 : tie.Need-returns-3
 returns-3 c =
     let the-inner2 = c .before .before .before .inner2 in

@@ -8,43 +8,33 @@ use Rattle.pattern.specs.Walk.{AllWithin, capped}
 use borrow.Author.Needs.{needs}
 use Rattle.pattern.proofs.walk.as_several.Statement.{statement}
 use Rattle.pattern.proofs.walk.as_several.Tie as tie
-use Rattle.pattern.proofs.walk.as_several.Reads as reads
-use Rattle.pattern.proofs.walk.as_several.Lts as lts
-use Rattle.pattern.proofs.counts.sum.Reads as sum-reads
 
--- src/walk.rt:117:26
 enum-known-inner : tie.Need-enum-known-inner
 enum-known-inner c = search needs
 
--- src/walk.rt:119:13
 enum-known-inner-2 : tie.Need-enum-known-inner-2
 enum-known-inner-2 c = search needs
 
--- src/walk.rt:132:49
 sub-sum : tie.Need-sub-sum
 sub-sum c = search needs
 
--- src/walk.rt:132:29
 sum-requires : tie.Need-sum-requires
 sum-requires c κs =
     let the-inner2 = c .before .before .before .inner2 in
     let the-pre = c .before .before .before .before .before .pre in
     let h = subst (AllWithin patternLevels) (the-inner2 .given .1) the-pre in omega arith
 
--- src/walk.rt:112:1
 returns : tie.Need-returns
 returns c =
     let the-inner = c .before .inner in
     rw (the-inner .given .1)
 
--- src/walk.rt:112:1
 returns-2 : tie.Need-returns-2
 returns-2 c =
     let the-inner2 = c .before .before .inner2 in
     let the-if1 = c .if1 in
     rw (the-inner2 .given .1, lt-ltb _ _ (the-if1 .taken))
 
--- src/walk.rt:112:1
 returns-3 : tie.Need-returns-3
 returns-3 c =
     let the-inner2 = c .before .before .before .before .inner2 in
@@ -53,7 +43,6 @@ returns-3 c =
     let the-if2 = c .before .if2 in
     rw (the-inner2 .given .1, the-sum .ensures, le-ltb _ _ (the-if1 .left), the-if2 .taken)
 
--- src/walk.rt:112:1
 returns-4 : tie.Need-returns-4
 returns-4 c =
     let the-inner2 = c .before .before .before .inner2 in
