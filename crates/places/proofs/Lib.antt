@@ -6,3 +6,5 @@ pub mod Entering
 pub mod Views
 pub mod Building
 pub mod Records
+pub mod Walked
+pub mod Listing
