@@ -21,11 +21,10 @@ pub struct Numbers {
     pub n: usize,
 }
 
-// Where a place leads at once: whether it does, the level there and the rows.
+// Where a place leads at once: whether it does, and the level there.
 pub struct Onward {
     pub goes: bool,
     pub level: usize,
-    pub rows: [u16; 20],
 }
 
 // What a place that leads nowhere at once leaves: how many threads are carried, and whether a thread has won.
@@ -98,12 +97,11 @@ pub fn eats(pattern: &[u8], line: &[u8], kind: usize, a: usize, n: usize, at: u1
     false
 }
 
-// As many rows from the first on made absent.
-pub fn cleared(groups: [u16; 20], first: usize, count: usize) -> [u16; 20]
+// Makes as many rows from the first on absent.
+pub fn clear_rows(rows: &mut [u16; 20], first: usize, count: usize)
     requires { ⌜ first + count ≤ 10 ⌝ }
-    ensures { λ r. ⌜ r ≡ clear first count groups ⌝ }
+    ensures { λ _. ⌜ now (rows .exit) ≡ clear first count (now (rows .entry)) ⌝ }
 {
-    let mut rows = groups;
     let mut k = first;
     let mut many = count;
     while 0 < many {
@@ -112,7 +110,6 @@ pub fn cleared(groups: [u16; 20], first: usize, count: usize) -> [u16; 20]
         k = k + 1;
         many = many - 1;
     }
-    rows
 }
 
 // Writes a thread at an index of a list.
@@ -174,48 +171,33 @@ pub fn carry(
     }
 }
 
-// A place that leads on at once, of kind 1 to 5: open, close, begin, begin optional, end.
-pub fn lead(kind: usize, a: usize, n: usize, at: u16, level: usize, groups: [u16; 20]) -> Onward
+// A place that leads on at once, of kind 1 to 5: open, close, begin, begin optional, end. It changes the rows where they stand.
+pub fn lead(kind: usize, a: usize, n: usize, at: u16, level: usize, rows: &mut [u16; 20]) -> Onward
     requires { ⌜ (0 < kind) × (kind < 6) × (level + 1 < 2 ^ 64) × Slots kind a n ⌝ }
-    ensures { λ r. ⌜ Leads kind a n at level groups (r .goes) (r .level) (r .rows) ⌝ }
+    ensures { λ r. ⌜ Leads kind a n at level (now (rows .entry)) (r .goes) (r .level) (now (rows .exit)) ⌝ }
 {
-    let mut rows = groups;
     if kind == 1 {
         rows[2 * a] = at;
-        return Onward {
-            goes: true,
-            level,
-            rows,
-        };
+        return Onward { goes: true, level };
     }
     if kind == 2 {
         rows[2 * a + 1] = at;
-        return Onward {
-            goes: true,
-            level,
-            rows,
-        };
+        return Onward { goes: true, level };
     }
     if kind == 5 {
         return Onward {
             goes: level == 0,
             level: 0,
-            rows,
         };
     }
-    rows = cleared(groups, a, n);
+    clear_rows(rows, a, n);
     if kind == 4 {
         return Onward {
             goes: true,
             level: level + 1,
-            rows,
         };
     }
-    Onward {
-        goes: true,
-        level,
-        rows,
-    }
+    Onward { goes: true, level }
 }
 
 // A place that leads nowhere at once, of kind 6 and on: a set, stop, accept. The winner is stored behind the carried threads, uncounted.
@@ -304,9 +286,7 @@ pub fn visit(
                 goes = !done;
                 place = here.a;
             } else if kind < 6 {
-                let o = lead(kind, here.a, here.n, at, level, rows);
-                let after = o.rows;
-                rows = after;
+                let o = lead(kind, here.a, here.n, at, level, &mut rows);
                 level = o.level;
                 goes = o.goes;
                 place = here.next;

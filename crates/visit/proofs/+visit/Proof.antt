@@ -114,23 +114,23 @@ visit-loop-again t c =
 
 visit-lead-requires : (t : ℕ) → visit-lts.Need-lead-requires (calls t) (visit-at t) visit.Post visit-Inv-loop visit-μ-loop
 visit-lead-requires t c κs =
-    let the-if2 = c .before .if2 in
-    let the-if3 = c .if3 in
-    let the-loop = c .before .before .before .before .before .before .before .before .before .loop in
-    let the-good = c .before .before .before .before .before .before .before .before .before .before .before .before .before .before .before .before .good in
-    let the-loop-test = c .before .before .before .before .before .before .before .before .loop-test in
-    let the-mark = c .before .before .before .before .before .before .mark in
-    let the-if1 = c .before .before .before .if1 in
-    let the-numbers-of = c .before .before .numbers-of in
+    let the-if2 = c .before .before .if2 in
+    let the-if3 = c .before .if3 in
+    let the-loop = c .before .before .before .before .before .before .before .before .before .before .loop in
+    let the-good = c .before .before .before .before .before .before .before .before .before .before .before .before .before .before .before .before .before .good in
+    let the-loop-test = c .before .before .before .before .before .before .before .before .before .loop-test in
+    let the-mark = c .before .before .before .before .before .before .before .mark in
+    let the-if1 = c .before .before .before .before .if1 in
+    let the-numbers-of = c .before .before .before .numbers-of in
     (omega (arith, the-if2 .left), the-if3 .taken, omega (arith, turn-level (the-loop .inv), the-loop .inv .long, the-good .1 .1 .1 .0 .0), lead-slots (the-loop .inv) (the-loop-test .taken) (the-mark .last .0) (the-mark .result) (the-mark .ensures) (the-if1 .taken) (the-numbers-of .result .kind) (the-numbers-of .result .next) (the-numbers-of .result .a) (the-numbers-of .result .n) (the-numbers-of .ensures))
 
 visit-loop-less-2 : (t : ℕ) → visit-lts.Need-loop-less-2 (calls t) (visit-at t) visit.Post visit-Inv-loop visit-μ-loop
 visit-loop-less-2 t c =
-    let the-lead = c .before .lead in
     let the-loop = c .before .before .before .before .before .before .before .before .before .before .before .loop in
     let the-loop-test = c .before .before .before .before .before .before .before .before .before .before .loop-test in
     let the-mark = c .before .before .before .before .before .before .before .before .mark in
     let the-if1 = c .before .before .before .before .before .if1 in
+    let the-lead = c .lead in
     less-new (the-loop .inv) (the-loop-test .taken) (the-mark .last .0) (the-mark .result) (the-mark .ensures) (the-if1 .taken) (the-mark .last .0) (the-lead .result .goes) (omega arith)
 
 visit-loop-again-2 : (t : ℕ) → visit-lts.Need-loop-again-2 (calls t) (visit-at t) visit.Post visit-Inv-loop visit-μ-loop
@@ -142,8 +142,8 @@ visit-loop-again-2 t c =
     let the-numbers-of = c .before .before .before .before .numbers-of in
     let the-if2 = c .before .before .before .if2 in
     let the-if3 = c .before .before .if3 in
-    let the-lead = c .before .lead in
-    turn-lead (the-loop .inv) (the-loop-test .taken) (the-mark .last .0) (the-mark .result) (the-mark .ensures) (the-if1 .taken) (the-numbers-of .result .kind) (the-numbers-of .result .next) (the-numbers-of .result .a) (the-numbers-of .result .n) (the-numbers-of .ensures) (omega (arith, the-if2 .left)) (the-if3 .taken) (the-lead .result .goes) (the-lead .result .level) (the-lead .result .rows) (the-lead .ensures)
+    let the-lead = c .lead in
+    turn-lead (the-loop .inv) (the-loop-test .taken) (the-mark .last .0) (the-mark .result) (the-mark .ensures) (the-if1 .taken) (the-numbers-of .result .kind) (the-numbers-of .result .next) (the-numbers-of .result .a) (the-numbers-of .result .n) (the-numbers-of .ensures) (omega (arith, the-if2 .left)) (the-if3 .taken) (the-lead .result .goes) (the-lead .result .level) (the-lead .last .1 .1 .1 .1 .1 .0) (the-lead .ensures)
 
 visit-settle-requires : (t : ℕ) → visit-lts.Need-settle-requires (calls t) (visit-at t) visit.Post visit-Inv-loop visit-μ-loop
 visit-settle-requires t c κs =

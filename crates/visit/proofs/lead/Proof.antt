@@ -6,7 +6,7 @@ use Rattle.visit.proofs.lead.Statement.{statement}
 use Rattle.visit.proofs.lead.Tie as tie
 use Rattle.visit.proofs.lead.Reads as reads
 use Rattle.visit.proofs.lead.Lts as lts
-use Rattle.visit.proofs.cleared.Reads as cleared-reads
+use Rattle.visit.proofs.clear_rows.Reads as clear-rows-reads
 
 mul-rows : tie.Need-mul-rows
 mul-rows c =
@@ -20,8 +20,8 @@ mul-rows-2 c =
     let the-if1 = c .if1 in
     omega (arith, the-pre .3 .opens (the-if1 .taken))
 
-array-write-rows : tie.Need-array-write-rows
-array-write-rows c =
+element-write-rows : tie.Need-element-write-rows
+element-write-rows c =
     let the-pre = c .before .pre in
     let the-if1 = c .if1 in
     omega (arith, the-pre .3 .opens (the-if1 .taken))
@@ -30,7 +30,7 @@ returns : tie.Need-returns
 returns c =
     let the-args = c .before .args in
     let the-if1 = c .if1 in
-    leads-open (the-args .kind) (the-args .a) (the-args .n) (the-args .at) (the-args .level) (the-args .groups) (the-if1 .taken)
+    leads-open (the-args .kind) (the-args .a) (the-args .n) (the-args .at) (the-args .level) (the-args .rows .now) (the-if1 .taken)
 
 mul-rows-3 : tie.Need-mul-rows-3
 mul-rows-3 c =
@@ -50,8 +50,8 @@ mul-rows-4 c =
     let the-if2 = c .if2 in
     omega (arith, the-pre .3 .closes (the-if2 .taken))
 
-array-write-rows-2 : tie.Need-array-write-rows-2
-array-write-rows-2 c =
+element-write-rows-2 : tie.Need-element-write-rows-2
+element-write-rows-2 c =
     let the-pre = c .before .before .pre in
     let the-if2 = c .if2 in
     omega (arith, the-pre .3 .closes (the-if2 .taken))
@@ -60,38 +60,38 @@ returns-2 : tie.Need-returns-2
 returns-2 c =
     let the-args = c .before .before .args in
     let the-if2 = c .if2 in
-    leads-close (the-args .kind) (the-args .a) (the-args .n) (the-args .at) (the-args .level) (the-args .groups) (the-if2 .taken)
+    leads-close (the-args .kind) (the-args .a) (the-args .n) (the-args .at) (the-args .level) (the-args .rows .now) (the-if2 .taken)
 
 returns-3 : tie.Need-returns-3
 returns-3 c =
     let the-args = c .before .before .before .args in
     let the-if3 = c .if3 in
-    leads-end (the-args .kind) (the-args .a) (the-args .n) (the-args .at) (the-args .level) (the-args .groups) (the-if3 .taken)
+    leads-end (the-args .kind) (the-args .a) (the-args .n) (the-args .at) (the-args .level) (the-args .rows .now) (the-if3 .taken)
 
-cleared-requires : tie.Need-cleared-requires
-cleared-requires c κs =
-    let the-args = c .before .before .before .args in
-    let the-pre = c .before .before .before .pre in
-    let the-if1 = c .before .before .if1 in
-    let the-if2 = c .before .if2 in
-    let the-if3 = c .if3 in
+clear-rows-requires : tie.Need-clear-rows-requires
+clear-rows-requires c κs =
+    let the-args = c .before .before .before .before .args in
+    let the-pre = c .before .before .before .before .pre in
+    let the-if1 = c .before .before .before .if1 in
+    let the-if2 = c .before .before .if2 in
+    let the-if3 = c .before .if3 in
     begin-slots (the-args .kind) (the-args .a) (the-args .n) (the-pre .0) (the-pre .1) (the-if1 .left) (the-if2 .left) (the-if3 .left) (the-pre .3)
 
-add-t23 : tie.Need-add-t23
-add-t23 c = search needs
+add-t20 : tie.Need-add-t20
+add-t20 c = search needs
 
 returns-4 : tie.Need-returns-4
 returns-4 c =
-    let the-args = c .before .before .before .before .before .args in
-    let the-cleared = c .before .cleared in
+    let the-args = c .before .before .before .before .before .before .args in
+    let the-clear-rows = c .before .clear-rows in
     let the-if4 = c .if4 in
-    leads-begin-optional (the-args .kind) (the-args .a) (the-args .n) (the-args .at) (the-args .level) (the-args .groups) (the-cleared .result) (the-cleared .ensures) (the-if4 .taken)
+    leads-begin-optional (the-args .kind) (the-args .a) (the-args .n) (the-args .at) (the-args .level) (the-args .rows .now) (the-clear-rows .last .0) (the-clear-rows .ensures) (the-if4 .taken)
 
 returns-5 : tie.Need-returns-5
 returns-5 c =
-    let the-args = c .before .before .before .before .before .args in
-    let the-cleared = c .before .cleared in
-    leads-begin (the-args .kind) (the-args .a) (the-args .n) (the-args .at) (the-args .level) (the-args .groups) (the-cleared .result) (the-cleared .ensures) (omega arith)
+    let the-args = c .before .before .before .before .before .before .args in
+    let the-clear-rows = c .before .clear-rows in
+    leads-begin (the-args .kind) (the-args .a) (the-args .n) (the-args .at) (the-args .level) (the-args .rows .now) (the-clear-rows .last .0) (the-clear-rows .ensures) (omega arith)
 
 pub lead-spec : {M : Type 1} → statement M
 lead-spec =
@@ -99,15 +99,15 @@ lead-spec =
     (tie.spec
     mul-rows
     mul-rows-2
-    array-write-rows
+    element-write-rows
     returns
     mul-rows-3
     add-rows
     mul-rows-4
-    array-write-rows-2
+    element-write-rows-2
     returns-2
     returns-3
-    cleared-requires
-    add-t23
+    clear-rows-requires
+    add-t20
     returns-4
     returns-5)

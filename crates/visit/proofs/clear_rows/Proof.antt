@@ -2,20 +2,19 @@
 use borrow.Author.Needs.{needs}
 use Prim.Native.Nat.{ℕ, _+_, _≤_}
 use mathlib.Core.Path.{_≡_, refl, sym, _∙_}
-use lib.ListN.{length}
 use Rattle.paper.specs.Rows.{clear}
 use Rattle.visit.proofs.Ranges.{clear-more, clear-none}
 use native.Mathlib.Omega.{arith}
-use Rattle.visit.proofs.cleared.Statement.{statement}
-use Rattle.visit.proofs.cleared.Tie as tie
-use Rattle.visit.proofs.cleared.Reads as reads
-use Rattle.visit.proofs.cleared.Lts as lts
+use Rattle.visit.proofs.clear_rows.Statement.{statement}
+use Rattle.visit.proofs.clear_rows.Tie as tie
+use Rattle.visit.proofs.clear_rows.Reads as reads
+use Rattle.visit.proofs.clear_rows.Lts as lts
 
 abbrev Inv-loop : tie.InvT-loop
-Inv-loop first count rows₀ k₀ many₀ rows k many = (k + many ≤ 10) × (length rows ≡ 20) × (clear k many rows ≡ clear first count rows₀)
+Inv-loop rows₀ first count k₀ many₀ rows k many = (k + many ≤ 10) × (clear k many rows ≡ clear first count rows₀)
 
 abbrev μ-loop : tie.MeasureT-loop
-μ-loop first count rows₀ k₀ many₀ rows k many = many
+μ-loop rows₀ first count k₀ many₀ rows k many = many
 
 loop-holds : tie.Need-loop-holds Inv-loop μ-loop
 loop-holds c = search needs
@@ -26,8 +25,8 @@ mul-rows c = search needs
 mul-rows-2 : tie.Need-mul-rows-2 Inv-loop μ-loop
 mul-rows-2 c = search needs
 
-array-write-rows : tie.Need-array-write-rows Inv-loop μ-loop
-array-write-rows c = search needs
+element-write-rows : tie.Need-element-write-rows Inv-loop μ-loop
+element-write-rows c = search needs
 
 mul-rows-3 : tie.Need-mul-rows-3 Inv-loop μ-loop
 mul-rows-3 c = search needs
@@ -38,8 +37,8 @@ add-rows c = search needs
 mul-rows-4 : tie.Need-mul-rows-4 Inv-loop μ-loop
 mul-rows-4 c = search needs
 
-array-write-rows-2 : tie.Need-array-write-rows-2 Inv-loop μ-loop
-array-write-rows-2 c = search needs
+element-write-rows-2 : tie.Need-element-write-rows-2 Inv-loop μ-loop
+element-write-rows-2 c = search needs
 
 add-k : tie.Need-add-k Inv-loop μ-loop
 add-k c = search needs
@@ -54,16 +53,16 @@ loop-again : tie.Need-loop-again Inv-loop μ-loop
 loop-again c =
     let the-loop = c .before .loop in
     let the-loop-test = c .loop-test in
-    (search needs, search needs, sym (clear-more (the-loop .k) (the-loop .many) (the-loop .rows) (the-loop-test .taken)) ∙ the-loop .inv .2)
+    (search needs, sym (clear-more (the-loop .k) (the-loop .many) (the-loop .rows) (the-loop-test .taken)) ∙ the-loop .inv .1)
 
 returns : tie.Need-returns Inv-loop μ-loop
 returns c =
     let the-loop = c .before .loop in
     let the-loop-test = c .loop-test in
-    sym (clear-none (the-loop .k) (the-loop .many) (the-loop .rows) (the-loop-test .left)) ∙ the-loop .inv .2
+    sym (clear-none (the-loop .k) (the-loop .many) (the-loop .rows) (the-loop-test .left)) ∙ the-loop .inv .1
 
-pub cleared-spec : {M : Type 1} → statement M
-cleared-spec =
+pub clear-rows-spec : {M : Type 1} → statement M
+clear-rows-spec =
     tie.close
     (tie.spec
     Inv-loop
@@ -71,11 +70,11 @@ cleared-spec =
     loop-holds
     mul-rows
     mul-rows-2
-    array-write-rows
+    element-write-rows
     mul-rows-3
     add-rows
     mul-rows-4
-    array-write-rows-2
+    element-write-rows-2
     add-k
     sub-many
     loop-less
