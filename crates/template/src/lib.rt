@@ -127,7 +127,7 @@ pub fn check_template(template: &[u8]) -> Counted
 }
 
 // Refusal 10 of a template that 9 does not refuse: the walk to the first reference above the groups.
-pub fn first_too_high(template: &[u8], groups: usize) -> References
+fn first_too_high(template: &[u8], groups: usize) -> References
     requires { ⌜ Lawful (now template) ⌝ }
     ensures { λ r. ⌜ ((pieces : List Piece) → templateOf (now (template .entry)) ≡ accepted pieces → referencesOf r ≡ within pieces groups) ⌝ }
 {
@@ -158,7 +158,7 @@ pub fn references_within(template: &[u8], groups: usize) -> References
 }
 
 // Where the record of a number stands: past as many bodies.
-pub fn place_of(template: &[u8], number: usize) -> usize
+fn place_of(template: &[u8], number: usize) -> usize
     requires { ⌜ Numbered (now template) number ⌝ }
     ensures { λ r. ⌜ ((pieces : List Piece) → templateOf (now (template .entry)) ≡ accepted pieces → From (now (template .entry)) r (drop number pieces)) ⌝ }
 {
