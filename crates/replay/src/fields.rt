@@ -1,0 +1,170 @@
+// The fields of a case: hexadecimal byte strings and decimal numbers, separated by single spaces.
+ghost use Prim.Native.Nat.{_≤_, _<_, _+_, _*_, _-_};
+ghost use lib.ListN.{length};
+ghost use mathlib.Core.Path.{_≡_};
+
+// A field that was read: whether it is one, where the query goes on behind it, and how far the bytes that it stands for reach.
+pub struct Field {
+    pub whole: bool,
+    pub next: usize,
+    pub end: usize,
+}
+
+// A number that was read: whether it is one, where the query goes on behind it, and its value.
+pub struct Number {
+    pub whole: bool,
+    pub next: usize,
+    pub value: usize,
+}
+
+// The value of a lower-case hexadecimal digit, or 16.
+fn digit(b: u8) -> usize
+    ensures { λ r. ⌜ r ≤ 16 ⌝ }
+{
+    if b < b'0' {
+        return 16;
+    }
+    if b <= b'9' {
+        return wide(b - b'0');
+    }
+    if b < b'a' {
+        return 16;
+    }
+    if b <= b'f' {
+        return wide(b - b'a') + 10;
+    }
+    16
+}
+
+fn wide(b: u8) -> usize
+    ensures { λ r. ⌜ r ≡ b ⌝ }
+{
+    b as usize
+}
+
+// The byte that two digits stand for, or 256.
+fn pair(first: u8, second: u8) -> usize
+    ensures { λ r. ⌜ r ≤ 256 ⌝ }
+{
+    let high = digit(first);
+    let low = digit(second);
+    if 16 <= high {
+        return 256;
+    }
+    if 16 <= low {
+        return 256;
+    }
+    16 * high + low
+}
+
+// Whether a field ends at a position: at a space or at the query's end.
+fn ends(query: &[u8], at: usize) -> bool {
+    if at < query.len() {
+        query[at] == b' '
+    } else {
+        true
+    }
+}
+
+// The field that starts at a position, its bytes put into `store` from `to` on; a dot stands for no bytes.
+pub fn read_field(query: &[u8], at: usize, store: &mut [u8], to: usize) -> Field
+    requires { ⌜ (at ≤ length (now query)) × (to ≤ length (now store)) ⌝ }
+    ensures { λ r. ⌜ (r .next ≤ length (now (query .entry))) × (to ≤ r .end) × (r .end ≤ length (now (store .entry))) ⌝ }
+{
+    if at < query.len() {
+        if query[at] == b'.' {
+            return Field {
+                whole: ends(query, at + 1),
+                next: at + 1,
+                end: to,
+            };
+        }
+    }
+    let n = read_pairs(query, at, store, to);
+    let next = at + 2 * (n - to);
+    Field {
+        whole: to < n && ends(query, next),
+        next,
+        end: n,
+    }
+}
+
+// The pairs of digits from a position on, put into `store` from `to` on. Answers where they end there.
+fn read_pairs(query: &[u8], at: usize, store: &mut [u8], to: usize) -> usize
+    requires { ⌜ (at ≤ length (now query)) × (to ≤ length (now store)) ⌝ }
+    ensures { λ r. ⌜ (to ≤ r) × (r ≤ length (now (store .entry))) × (at + 2 * (r - to) ≤ length (now (query .entry))) ⌝ }
+{
+    let mut i = at;
+    let mut n = to;
+    while i + 1 < query.len() {
+        if store.len() <= n {
+            return n;
+        }
+        let b = pair(query[i], query[i + 1]);
+        if 256 <= b {
+            return n;
+        }
+        store[n] = b as u8;
+        n += 1;
+        i += 2;
+    }
+    n
+}
+
+// The decimal number that starts at a position: at most nine digits.
+pub fn read_number(query: &[u8], at: usize) -> Number
+    requires { ⌜ at ≤ length (now query) ⌝ }
+    ensures { λ r. ⌜ (r .next ≤ length (now (query .entry))) × (r .value < 1000000000) ⌝ }
+{
+    let mut i = at;
+    let mut value = 0;
+    while i < query.len() {
+        let d = digit(query[i]);
+        if 10 <= d {
+            return Number {
+                whole: at < i && ends(query, i),
+                next: i,
+                value,
+            };
+        }
+        if 100000000 <= value {
+            return Number {
+                whole: false,
+                next: i,
+                value,
+            };
+        }
+        value = 10 * value + d;
+        i += 1;
+    }
+    Number {
+        whole: at < i,
+        next: i,
+        value,
+    }
+}
+
+// The field behind a space at a position.
+pub fn after_space(query: &[u8], at: usize, store: &mut [u8], to: usize) -> Field
+    requires { ⌜ (at ≤ length (now query)) × (to ≤ length (now store)) ⌝ }
+    ensures { λ r. ⌜ (r .next ≤ length (now (query .entry))) × (to ≤ r .end) × (r .end ≤ length (now (store .entry))) ⌝ }
+{
+    if at < query.len() {
+        read_field(query, at + 1, store, to)
+    } else {
+        Field {
+            whole: false,
+            next: at,
+            end: to,
+        }
+    }
+}
+
+// Whether a field was read and nothing stands behind it.
+pub fn last(query: &[u8], field: Field) -> bool {
+    if field.whole {
+        query.len() <= field.next
+    } else {
+        false
+    }
+}
