@@ -12,7 +12,7 @@ use Rattle.paper.specs.Limits.{patternBytes, patternLevels, patternPlaces}
 use Rattle.paper.specs.Refusal.{Checked, refused, accepted, _>>=_, _>>_, holds, patternTooLong, brokenRecord, tooManyPlaces}
 use Rattle.paper.specs.Pattern.{Pattern, places, depth, groups, allPlaces}
 use Rattle.paper.specs.Layout.{recordOf, Lawful}
-use Rattle.paper.specs.Check.{bodyEnd, walkRecord, Numbers, numbersOf, check}
+use Rattle.paper.specs.Check.{bodyEnd, walkRecord, patternOf, Numbers, numbersOf, check}
 use Rattle.paper.proofs.Standing.{Bytes}
 use Rattle.paper.proofs.Lawful.{check-exactly}
 use Rattle.pattern.specs.Walk.{capped, told}
@@ -86,6 +86,40 @@ promised {bs} {r} small q = record {
       (λ (told : Checked Numbers). (told ≡ accepted numbers) ↔ ((e : Pattern) × Lawful e × (recordOf e ≡ bs) × (numbersOf e ≡ numbers)))
       (sym q) (check-exactly bs small numbers);
 }
+
+-- ---- what a caller learns
+
+-- the tree that was taken, and that the numbers are its own
+pub record Taken (bs : List ℕ) (all deep total : ℕ) : Type 0 where
+  pub tree : Pattern
+  pub is : patternOf bs ≡ accepted tree
+  pub places-right : all ≡ allPlaces tree
+  pub depth-right : deep ≡ depth tree
+  pub groups-right : total ≡ groups tree
+
+-- numbers are answered of a tree
+pub taken-tree : {bs : List ℕ} {all deep total : ℕ} → Checks bs (Accepted all deep total) → Taken bs all deep total
+taken-tree {bs} {all} {deep} {total} c = look (patternOf bs) refl (c .answer) where
+  look : (found : Checked Pattern) → patternOf bs ≡ found → answerOf (Accepted all deep total) ≡ (found >>= λ e. accepted (numbersOf e)) → Taken bs all deep total
+  look (refused number place) e q = let z : _≡_ {A = ℕ} 0 1 = cc in absurd (omega arith)
+  look (accepted tree) e q =
+      let same : _≡_ {A = Numbers} (record { places = all; depth = deep; groups = total }) (numbersOf tree) = cc in
+      record {
+        tree = tree;
+        is = e;
+        places-right = ap (λ (n : Numbers). n .places) same;
+        depth-right = ap (λ (n : Numbers). n .depth) same;
+        groups-right = ap (λ (n : Numbers). n .groups) same;
+      }
+
+-- a refusal is answered of a refused pattern
+pub refused-pattern : {bs : List ℕ} {number place : ℕ} → Checks bs (Refused number place) → patternOf bs ≡ refused number place
+refused-pattern {bs} {number} {place} c = look (patternOf bs) refl (c .answer) where
+  look : (found : Checked Pattern) → patternOf bs ≡ found → answerOf (Refused number place) ≡ (found >>= λ e. accepted (numbersOf e)) → patternOf bs ≡ refused number place
+  look (refused n p) e q = e ∙ cc
+  look (accepted tree) e q = let z : _≡_ {A = ℕ} 0 1 = cc in absurd (omega arith)
+
+-- ---- one answer
 
 -- no two answers are read alike
 pub answers-differ : (a b : Answer) → answerOf a ≡ answerOf b → a ≡ b

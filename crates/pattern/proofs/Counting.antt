@@ -2,15 +2,17 @@
 -- since a count at the limit stays there in every pass and is forgotten only where there is no pass.
 use Prim.Native.Nat.{ℕ, zero, suc, _+_, _-_, _*_, _≤_, _<_, min, max}
 use mathlib.Core.Path.{_≡_, refl, ap, sym, _∙_}
-use mathlib.Core.Bool.{Bool, true, false, _&&_, _||_}
+use mathlib.Core.Bool.{Bool, true, false}
 use mathlib.Core.Logic.{_⊎_, inl, inr, ⊎-elim}
 use native.Mathlib.Nat.{zero-mul, one-mul, suc-mul, mul-le-mul, min-eq-left, eq-zero-or-pos}
 use native.Mathlib.Omega.{arith}
-use lib.Dec.{leb, ltb, eqb}
-use borrow.Author.Tests.{lt-ltb, le-ltb, ltb-true, ltb-false, leb-true}
-use Rattle.paper.specs.Limits.{patternPlaces, repeatCount, noUpperEnd}
+use lib.Dec.{ltb}
+use borrow.Author.Tests.{lt-ltb, le-ltb, ltb-true, ltb-false}
+use Rattle.paper.specs.Limits.{patternPlaces, repeatCount}
 use Rattle.paper.specs.Pattern.{Upper, upTo, noEnd, repeatPlaces, hasOptional}
+use Rattle.paper.specs.Layout.{CountsRight}
 use Rattle.paper.specs.Check.{repeatNumbersRight, upperOf}
+use Rattle.paper.proofs.RepeatBody.{numbers-right, counts-small, upper-number-of}
 use Rattle.pattern.specs.Walk.{capped, optionalPasses, passPlaces}
 
 -- of two numbers the first is below the second or not
@@ -20,10 +22,7 @@ compared a b = look (ltb a b) refl where
   look true e = inl (ltb-true a b e)
   look false e = inr (ltb-false a b e)
 
--- a sum of counts
-pub capped-sum : (a b : ℕ) → capped (capped a + capped b) ≡ capped (a + b)
-capped-sum a b = omega arith
-
+-- a sum of a count and an exact number
 pub capped-add : (a b : ℕ) → capped (capped a + b) ≡ capped (a + b)
 capped-add a b = omega arith
 
@@ -31,11 +30,13 @@ capped-add a b = omega arith
 pub one-pass : (n k e : ℕ) → 0 < n → patternPlaces ≤ e → patternPlaces ≤ n * (k + e)
 one-pass (suc n) k e pos much = omega (arith, suc-mul n (k + e))
 
+-- so do passes that must be made and optional ones together
 pub some-pass : (least optional e : ℕ) → 0 < least + optional → patternPlaces ≤ e → patternPlaces ≤ passPlaces least optional e
 some-pass (suc least) optional e pos much = omega (arith, one-pass (suc least) 1 e (omega arith) much)
 some-pass zero (suc optional) e pos much = omega (arith, one-pass (suc optional) 3 e (omega arith) much)
 some-pass zero zero e pos much = absurd (omega arith)
 
+-- where there is no pass there is no place
 pub no-pass : (least optional e : ℕ) → least + optional ≤ 0 → passPlaces least optional e ≡ 0
 no-pass zero zero e none = omega (arith, zero-mul (1 + e), zero-mul (3 + e))
 no-pass zero (suc optional) e none = absurd (omega arith)
@@ -71,29 +72,19 @@ pass-bound n k e few small le = let h : k + e ≤ 3 + patternPlaces = omega arit
 
 -- ---- the three numbers of a repeat
 
-both-true : (a b : Bool) → (a && b) ≡ true → (a ≡ true) × (b ≡ true)
-both-true true b e = (refl, e)
-both-true false b e = let z : _≡_ {A = ℕ} 0 1 = cc in absurd (omega arith)
-
 -- what right numbers bound
 pub record Bounded (least most : ℕ) : Type 0 where
   pub few-least : least ≤ repeatCount
   pub in-order : least ≤ most
   pub few-optional : optionalPasses least (upperOf most) ≤ repeatCount
 
+few-passes : (least : ℕ) (upper : Upper) → CountsRight least upper → optionalPasses least upper ≤ repeatCount
+few-passes least (upTo most) h = omega arith
+few-passes least noEnd h = omega arith
+
+-- right numbers have these bounds
 pub bounded : (least most mode : ℕ) → repeatNumbersRight least most mode ≡ true → Bounded least most
-bounded least most mode right = record {
-  few-least = leb-true least repeatCount (first .0);
-  in-order = leb-true least most (second .1);
-  few-optional = by (eqb most noUpperEnd) (leb most repeatCount) refl refl;
-} where
-  second : ((leb least repeatCount && (leb most repeatCount || eqb most noUpperEnd)) ≡ true) × (leb least most ≡ true)
-  second = both-true _ _ (both-true _ _ right .0)
-
-  first : (leb least repeatCount ≡ true) × ((leb most repeatCount || eqb most noUpperEnd) ≡ true)
-  first = both-true _ _ (second .0)
-
-  by : (t u : Bool) → eqb most noUpperEnd ≡ t → leb most repeatCount ≡ u → optionalPasses least (upperOf most) ≤ repeatCount
-  by true u e f = rw e (omega arith)
-  by false true e f = rw e (omega (arith, leb-true most repeatCount f))
-  by false false e f = let q : _≡_ {A = Bool} false true = rw (e, f) at (first .1) in let z : _≡_ {A = ℕ} 0 1 = cc in absurd (omega arith)
+bounded least most mode right =
+    let counts = numbers-right least most mode right .0 in
+    let small = counts-small least (upperOf most) counts in
+    record { few-least = small .0; in-order = rw (upper-number-of most) at (small .1); few-optional = few-passes least (upperOf most) counts }

@@ -7,12 +7,13 @@ use native.Mathlib.Nat.{sub-self}
 use native.Mathlib.Numerals.{add-one}
 use native.Mathlib.Omega.{arith}
 use lib.Dec.{leb, eqb, leb·zero}
-use lib.ListN.{length, getD, take, drop, length-take, length-drop}
+use lib.ListN.{length, getD, take, drop}
 use lib.Seq.{drop-cons}
 use borrow.Author.Tests.{le-leb, lt-leb, eq-eqb, ne-eqb}
 use Rattle.paper.specs.Limits.{setPairs}
 use Rattle.paper.specs.Pattern.{Range}
 use Rattle.paper.specs.Check.{part, rangesOf, apart, setRight}
+use Rattle.paper.proofs.Standing.{length-part}
 
 -- ---- a part of a list
 
@@ -23,11 +24,9 @@ part-cons bs start end lt le =
     let within : start < length bs = omega arith in
     rw (e, drop-cons bs start 0 within, add-one start)
 
+-- a part that ends where it starts is empty
 pub part-none : (bs : List ℕ) (end : ℕ) → part bs end end ≡ []
 part-none bs end = rw (sub-self end)
-
-pub part-length : (bs : List ℕ) (start end : ℕ) → end ≤ length bs → length (part bs start end) ≡ end - start
-part-length bs start end le = simp (length-take, length-drop) (omega arith)
 
 -- ---- pairs
 
@@ -67,6 +66,7 @@ pub record Left (bs : List ℕ) (start end at floor : ℕ) : Type 0 where
   pub whole : (end - at) % 2 ≡ 0
   pub same : apartFrom floor (pairs bs at end) ≡ apart (pairs bs start end)
 
+-- where the loop begins
 pub begun : (bs : List ℕ) (start end : ℕ) → start ≤ end → (end - start) % 2 ≡ 0 → Left bs start end start 0
 begun bs start end le even = record { before = le; whole = even; same = apart-from-zero (pairs bs start end) }
 
@@ -98,7 +98,7 @@ module _ {bs : List ℕ} {start end at floor : ℕ} (l : Left bs start end at fl
       same = sym (next-pair ∙ rw (le-leb _ _ fine, le-leb _ _ order)) ∙ l .same;
     }
 
--- ---- the body as a whole
+-- ---- the body as a whole: any other number of bytes than that of 1 to 32 pairs is wrong
 
 ranges-length : (body : List ℕ) → length (rangesOf body) ≡ length body / 2
 ranges-length [] = refl
@@ -107,22 +107,25 @@ ranges-length (low ∷ high ∷ rest) = omega (arith, ranges-length rest)
 
 module _ (bs : List ℕ) (start end : ℕ) (long : end ≤ length bs) where
   pair-count : length (pairs bs start end) ≡ (end - start) / 2
-  pair-count = ranges-length (part bs start end) ∙ ap (λ (n : ℕ). n / 2) (part-length bs start end long)
+  pair-count = ranges-length (part bs start end) ∙ ap (λ (n : ℕ). n / 2) (length-part bs start end long)
 
-  -- 1 to 32 whole pairs are right where they are apart; any other number of bytes is wrong
+  -- 1 to 32 whole pairs are right where they are apart
   pub few-pairs : (end - start) % 2 ≡ 0 → 0 < end - start → end - start ≤ 2 * setPairs → apart (pairs bs start end) ≡ setRight (part bs start end)
   few-pairs even some few =
-      rw (part-length bs start end long, pair-count, eq-eqb (end - start) (2 * ((end - start) / 2)) (omega arith))
+      rw (length-part bs start end long, pair-count, eq-eqb (end - start) (2 * ((end - start) / 2)) (omega arith))
       (rw (le-leb 1 ((end - start) / 2) (omega arith), le-leb ((end - start) / 2) setPairs (omega arith)))
 
+  -- no byte
   pub no-pair : end - start ≡ 0 → false ≡ setRight (part bs start end)
   no-pair none =
       rw (pair-count, lt-leb 1 ((end - start) / 2) (omega arith), and-false (eqb (length (part bs start end)) (2 * ((end - start) / 2))))
 
+  -- a low without a high
   pub half-pair : (end - start) % 2 ≡ 1 → false ≡ setRight (part bs start end)
-  half-pair odd = rw (part-length bs start end long, pair-count, ne-eqb (end - start) (2 * ((end - start) / 2)) (λ e. omega arith))
+  half-pair odd = rw (length-part bs start end long, pair-count, ne-eqb (end - start) (2 * ((end - start) / 2)) (λ e. omega arith))
 
+  -- more than 32 pairs
   pub many-pairs : (end - start) % 2 ≡ 0 → 2 * setPairs < end - start → false ≡ setRight (part bs start end)
   many-pairs even many =
-      rw (part-length bs start end long, pair-count, lt-leb ((end - start) / 2) setPairs (omega arith))
+      rw (length-part bs start end long, pair-count, lt-leb ((end - start) / 2) setPairs (omega arith))
       (rw (and-false (eqb (end - start) (2 * ((end - start) / 2)) && leb 1 ((end - start) / 2))))

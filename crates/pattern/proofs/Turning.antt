@@ -1,5 +1,5 @@
 -- The loop over a holder's records: what is left from here, joined with what was counted so far, is what the whole holder gives.
-use Prim.Native.Nat.{ℕ, zero, suc, _+_, _-_, _≤_, _<_, min, max}
+use Prim.Native.Nat.{ℕ, zero, suc, _+_, _≤_, _<_, max}
 use mathlib.Core.Path.{_≡_, refl, ap, sym, _∙_}
 use mathlib.Core.Bool.{Bool, true, false, cond}
 use mathlib.Core.List.{List, [], _∷_}
@@ -54,6 +54,7 @@ pub record Left (walk : Walk) (bs : List ℕ) (stop levels : ℕ) (whole : Sever
   pub few-levels : deep ≤ levels
   pub few-groups : total ≤ patternGroups
 
+-- where the loop begins
 pub begun : {start stop : ℕ} (walk : Walk) (bs : List ℕ) (at levels before : ℕ) → start ≡ bodyStart at → stop ≡ bodyEnd bs at → before ≤ patternGroups
     → Left walk bs stop levels (toldAll before (membersOf walk bs at before)) start 0 0 0 before
 begun {start} {stop} walk bs at levels before starts ends few = record {

@@ -1,27 +1,27 @@
 -- How the walk's answers are put together: from what is found inside a record to what is found in it, one law a way out of each function.
-use Prim.Native.Nat.{ℕ, zero, suc, _+_, _-_, _*_, _≤_, _<_, min, max}
-use mathlib.Core.Path.{_≡_, refl, ap, sym, subst, _∙_}
+use Prim.Native.Nat.{ℕ, zero, suc, _+_, _-_, _≤_, _<_, max}
+use mathlib.Core.Path.{_≡_, refl, ap, sym, _∙_}
 use mathlib.Core.Bool.{Bool, true, false, cond}
 use mathlib.Core.List.{List, [], _∷_}
 use mathlib.Core.Logic.{⊎-elim}
-use native.Mathlib.Nat.{eq-zero-or-pos, add-zero, add-assoc}
+use native.Mathlib.Nat.{eq-zero-or-pos, add-zero}
 use native.Mathlib.Numerals.{add-one}
 use native.Mathlib.Omega.{arith}
 use lib.Dec.{leb, ltb, eqb}
 use lib.ListN.{length}
 use borrow.Author.Tests.{le-leb, lt-leb, lt-ltb, le-ltb, eq-eqb, ne-eqb}
-use Rattle.paper.specs.Limits.{patternBytes, patternLevels, patternGroups, patternPlaces, repeatCount, noUpperEnd}
+use Rattle.paper.specs.Limits.{patternBytes, patternLevels, patternGroups, patternPlaces}
 use Rattle.paper.specs.Refusal.{Checked, refused, accepted, _>>=_, _>>_, holds, brokenRecord, unknownKind, tooDeep, tooManyGroups, repeatWrong, setWrong}
-use Rattle.paper.specs.Pattern.{Mode, Upper, upTo, noEnd, Pattern, Members, places, depth, groups, count, placesOfAll, depthOfAll, groupsOfAll}
+use Rattle.paper.specs.Pattern.{Mode, Upper, Pattern, Members, places, depth, groups, count, placesOfAll, depthOfAll, groupsOfAll}
 use Rattle.paper.specs.Pattern.Pattern.{bytes, group, sequence, alternation, repeat}
 use Rattle.paper.specs.Layout.{Kind, kinds, kindNumber, groupKind, repeatKind}
 use Rattle.paper.specs.Check.{Walk, numberAt, bodyLength, bodyStart, bodyEnd, kindAt, kindAmong, bare, byteSet, part, setRight, rangesOf, body, single, membersFrom, atLeastTwo, walkRecord, repeatNumbersRight, upperOf, modeOf, repeatHead}
-use Rattle.pattern.specs.Walk.{capped, optionalPasses, passPlaces, placesIn, depthIn, groupsIn, told, toldAll, leafOf, groupOf, repeatOf, severalOf, ofKind, membersOf, Within, AllWithin, Tells, TellsAll}
+use Rattle.pattern.specs.Walk.{capped, optionalPasses, passPlaces, placesIn, depthIn, groupsIn, told, toldAll, leafOf, groupOf, repeatOf, severalOf, ofKind, Within, AllWithin, Tells, TellsAll}
 use Rattle.pattern.specs.declared.walk.Walked.{Walked}
 use Rattle.pattern.specs.declared.walk.Walked.the-variants.{Refused, Record}
 use Rattle.pattern.specs.declared.walk.Several.{Several}
 use Rattle.pattern.specs.declared.walk.Several.the-variants.{Fault, Members as Some}
-use Rattle.pattern.proofs.Counting.{capped-sum, capped-add, capped-passes, repeat-passes, optional-passes}
+use Rattle.pattern.proofs.Counting.{capped-add, capped-passes, repeat-passes, optional-passes}
 
 -- ---- what an answer tells
 
@@ -39,6 +39,7 @@ pub record Found (end before : ℕ) (found : Checked Pattern) (after counted dee
   pub depth-right : deep ≡ depth tree
   pub groups-right : total ≡ before + groups tree
 
+-- there is such a tree
 pub tree-of : {end before after counted deep total : ℕ} (found : Checked Pattern) → Record after counted deep total ≡ told end before found
     → Found end before found after counted deep total
 tree-of (accepted e) q = record { tree = e; is = refl; ends = cc; places-right = cc; depth-right = cc; groups-right = cc }
@@ -58,6 +59,7 @@ wider (Record end places depth groups) s l w = omega arith
 pub bounded-record : (end left : ℕ) (w : Walked) → end ≤ patternBytes → left < patternLevels → Within end left w → Within patternBytes patternLevels w
 bounded-record end left w e l = wider w e (omega arith)
 
+-- and those that it asks for of several records
 pub bounded-members : (left : ℕ) (w : Several) → left < patternLevels → AllWithin left w → AllWithin patternLevels w
 bounded-members left (Fault number place) l h = tt
 bounded-members left (Some n counted deep total) l h = omega arith
@@ -73,6 +75,7 @@ passed-on {before = before} {found = found} {r = r} s l e f t = record {
 -- ---- a record's header
 
 module _ (bs : List ℕ) (at stop before : ℕ) where
+  -- a record that its holder cuts off is 2
   pub cut-off : (levels : ℕ) → stop < bodyEnd bs at → walkRecord levels bs at stop before ≡ refused brokenRecord at
   cut-off zero lt = rw (lt-leb (bodyEnd bs at) stop lt)
   cut-off (suc left) lt = rw (lt-leb (bodyEnd bs at) stop lt)
@@ -81,6 +84,7 @@ module _ (bs : List ℕ) (at stop before : ℕ) where
   no-kind number lt =
       simp (ne-eqb number 0 (λ e. omega arith), ne-eqb number 1 (λ e. omega arith), ne-eqb number 2 (λ e. omega arith), ne-eqb number 3 (λ e. omega arith), ne-eqb number 4 (λ e. omega arith), ne-eqb number 5 (λ e. omega arith), ne-eqb number 6 (λ e. omega arith))
 
+  -- a kind above the last is 3
   pub kind-unknown : (levels : ℕ) → bodyEnd bs at ≤ stop → kindNumber repeatKind < kindAt bs at → walkRecord levels bs at stop before ≡ refused unknownKind at
   kind-unknown zero le lt = rw (le-leb (bodyEnd bs at) stop le, no-kind (kindAt bs at) lt)
   kind-unknown (suc left) le lt = rw (le-leb (bodyEnd bs at) stop le, no-kind (kindAt bs at) lt)
@@ -98,9 +102,11 @@ module _ (bs : List ℕ) (at stop before : ℕ) where
   too-deep-at (suc (suc (suc (suc (suc (suc zero)))))) le = refl
   too-deep-at (suc (suc (suc (suc (suc (suc (suc n))))))) le = absurd (omega arith)
 
+  -- with no level left a known kind is 6
   pub no-level : (levels : ℕ) → levels ≡ 0 → bodyEnd bs at ≤ stop → kindAt bs at ≤ kindNumber repeatKind → walkRecord levels bs at stop before ≡ refused tooDeep at
   no-level levels z le known = rw (z, le-leb (bodyEnd bs at) stop le, too-deep-at (kindAt bs at) known)
 
+  -- with a level left the walk goes on in the body
   pub one-level : (levels : ℕ) → (levels ≡ 0 → ⊥) → bodyEnd bs at ≤ stop
       → ofKind (kindAt bs at) (walkRecord (levels - 1) bs) bs at before ≡ walkRecord levels bs at stop before
   one-level zero n le = absurd (n refl)
@@ -119,6 +125,7 @@ last-kind (suc (suc (suc (suc (suc (suc (suc n))))))) le a b c d e f = absurd (o
 
 -- ---- records that hold no other
 
+-- the answer for a body that is right or wrong as a whole
 pub leaf-tells : {end before : ℕ} (right : Bool) (number at levels : ℕ) (e : Pattern) → places e ≤ patternPlaces → depth e ≡ 0 → groups e ≡ 0
     → before ≤ patternGroups → Tells end levels end before (holds right number at >> accepted e) (leafOf right number at end (places e) before)
 leaf-tells {end} {before} true number at levels e p d g few = record {
@@ -146,11 +153,13 @@ bare-tells {start} {end} {before} bs at levels e starts ends p d g few =
 pub set-tells : {start end before : ℕ} (bs : List ℕ) (at levels : ℕ) → start ≡ bodyStart at → end ≡ bodyEnd bs at → before ≤ patternGroups
     → Tells end levels end before (byteSet bs at) (leafOf (setRight (part bs start end)) setWrong at end 1 before)
 set-tells {start} {end} {before} bs at levels starts ends few =
-    rw (starts, ends) (leaf-tells (setRight (part bs (bodyStart at) (bodyEnd bs at))) setWrong at levels (bytes (rangesOf (part bs (bodyStart at) (bodyEnd bs at)))) (omega arith) refl refl few)
+    let whole = part bs (bodyStart at) (bodyEnd bs at) in
+    rw (starts, ends) (leaf-tells (setRight whole) setWrong at levels (bytes (rangesOf whole)) (omega arith) refl refl few)
 
 -- ---- a group
 
 module _ (walk : Walk) (bs : List ℕ) (at end left before : ℕ) where
+  -- after nine groups a group is 7
   pub tenth-group : patternGroups ≤ before → body groupKind walk bs at before ≡ refused tooManyGroups at
   tenth-group many = rw (le-ltb before patternGroups many)
 
@@ -189,6 +198,7 @@ repeat-within end left least optional (Record after counted deep total) h = judg
   judged false = omega arith
 
 module _ (walk : Walk) (bs : List ℕ) (at end left before : ℕ) where
+  -- a body that has not its three numbers is 2
   pub short-repeat : bodyLength bs at < repeatHead → body repeatKind walk bs at before ≡ refused brokenRecord at
   short-repeat lt = rw (lt-leb repeatHead (bodyLength bs at) lt)
 
@@ -202,6 +212,7 @@ module _ (walk : Walk) (bs : List ℕ) (at end left before : ℕ) where
         rw (the-least, the-most, the-mode, starts) at e in
         rw (the-least, the-most, the-mode, starts, le-leb repeatHead (bodyLength bs at) long, q)
 
+    -- wrong numbers are 5
     pub wrong-numbers : repeatNumbersRight least most mode ≡ false → body repeatKind walk bs at before ≡ refused repeatWrong at
     wrong-numbers e = numbers-judged false e
 
@@ -216,15 +227,18 @@ module _ (walk : Walk) (bs : List ℕ) (at end left before : ℕ) where
 -- ---- one record inside
 
 module _ (walk : Walk) (bs : List ℕ) (at from end before : ℕ) (ends : end ≡ bodyEnd bs at) where
+  -- a fault inside is the fault
   pub inner-fault : {number place : ℕ} → walk from end before ≡ refused number place → single walk bs at from before ≡ refused number place
   inner-fault q = let q' : walk from (bodyEnd bs at) before ≡ refused _ _ = rw ends at q in rw q'
 
+  -- bytes left over are 2 at the holder
   pub left-over : {e : Pattern} → walk from end before ≡ accepted e → bodyEnd bs from < end → single walk bs at from before ≡ refused brokenRecord at
   left-over {e} q lt =
       let q' : walk from (bodyEnd bs at) before ≡ accepted e = rw ends at q in
       let lt' : bodyEnd bs from < bodyEnd bs at = rw ends at lt in
       rw (q', ne-eqb (bodyEnd bs from) (bodyEnd bs at) (λ e. omega arith))
 
+  -- a record that fills its holder is taken
   pub all-used : {e : Pattern} → walk from end before ≡ accepted e → bodyEnd bs from ≡ end → single walk bs at from before ≡ accepted e
   all-used {e} q eq =
       let q' : walk from (bodyEnd bs at) before ≡ accepted e = rw ends at q in
