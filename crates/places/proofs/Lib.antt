@@ -8,3 +8,4 @@ pub mod Building
 pub mod Records
 pub mod Walked
 pub mod Listing
+pub mod Finished

@@ -214,7 +214,8 @@ group-two {bs} {at} m ek three =
     let e : places (m .tree) ≡ 2 + places (v .inner) = ap places (v .is) in
     omega (arith, m .places-are)
 
-captures-lays : (t bs : List ℕ) (k : ℕ) (e : Core) (base next p : ℕ) → p ≡ size e → Holds t bs base (opening k (entryOf p (base + 1) (base + 1 + p)))
+-- a group, from its places
+pub captures-lays : (t bs : List ℕ) (k : ℕ) (e : Core) (base next p : ℕ) → p ≡ size e → Holds t bs base (opening k (entryOf p (base + 1) (base + 1 + p)))
     → Lays t bs e (base + 1) (base + 1 + p) → Holds t bs (base + 1 + p) (closing k next) → Lays t bs (captures k e) base next
 captures-lays t bs k e base next p ep =
     subst
@@ -395,7 +396,8 @@ module _ {bs : List ℕ} {at stop base next first n end : ℕ} {forks : Bool} (e
   pub more-few : {p g k : ℕ} → Counted bs at end p g k → (m : Several bs at stop forks base next first n) → first + g ≤ 10
   more-few c m = omega (arith, more m .few, more-groups c m)
 
-chain-lays : (t bs : List ℕ) (a b : Core) (base next p v : ℕ) → p ≡ size a → v ≡ entryOf (size b) (base + p) next → Lays t bs a base v
+-- one expression, then another
+pub chain-lays : (t bs : List ℕ) (a b : Core) (base next p v : ℕ) → p ≡ size a → v ≡ entryOf (size b) (base + p) next → Lays t bs a base v
     → Lays t bs b (base + p) next → Lays t bs (chain a b) base next
 chain-lays t bs a b base next p v ep ev =
     subst

@@ -8,7 +8,8 @@ use lib.ListN.{length}
 use Rattle.paper.specs.Limits.{patternBytes, patternPlaces, rowCount, repeatCount, noUpperEnd}
 use Rattle.paper.specs.Pattern.{Mode, Upper, Pattern, places, groups, repeatPlaces}
 use Rattle.paper.specs.Check.{numberAt, bodyEnd, repeatHead, upperOf, modeOf}
-use Rattle.paper.specs.Machine.{Core, skip, maybe, star, musts, writtenOut, passFork}
+use Rattle.paper.specs.Reading.{everyByte}
+use Rattle.paper.specs.Machine.{Core, skip, eats, maybe, star, musts, writtenOut, passFork}
 use Rattle.paper.specs.Tables.{placeNumbers, placeOf, setPlace}
 use Rattle.places.specs.Laid.{kindOf, nextOf, aOf, nOf, Holds, Kept, Lays, entryOf}
 use Rattle.places.specs.Standing.{Stands, Row, Passes, placesIn, groupsIn, rowPlaces, rowCore}
@@ -187,3 +188,14 @@ pub record RepeatLaid (bs : List ℕ) (start stop base next first : ℕ) (before
   pub kept : (m : Repeat bs start stop base next first) → Kept base (base + repeatPlaces (m .least) (m .upper) (places (m .tree))) before after
   pub laid : (m : Repeat bs start stop base next first)
       → Lays after bs (writtenOut (Pattern.repeat (m .least) (m .upper) (m .mode) (m .tree)) first) base next
+
+-- `any_star`: room for its four places
+pub record Star (table : List ℕ) (base next first : ℕ) : Type 0 where
+  pub room : base + 4 ≤ mostPlaces
+  pub follows : next ≤ mostPlaces
+  pub first-small : first ≤ mostPlaces
+  pub long : tableRoom ≤ length table
+
+pub record StarLaid (base mode next first : ℕ) (before after : List ℕ) : Type 0 where
+  pub kept : Kept base (base + 4) before after
+  pub laid : (p : List ℕ) → Lays after p (star (modeOf mode) first 0 (eats everyByte)) base next

@@ -24,11 +24,11 @@ pub record Built (list : List Place) (count : ℕ) (pattern before after : List 
   pub untouched : (i : ℕ) → placeNumbers * count ≤ i → getD after i 0 ≡ getD before i 0
 
 -- building for a whole match answers how many places the pattern has, and lists them
-pub record BuiltMatch (pattern before after : List ℕ) (answer : ℕ) (e : Pattern) : Type 0 where
-  pub count-is : answer ≡ allPlaces e
-  pub built : Built (placesOf e 1) (allPlaces e) pattern before after
+pub record BuiltMatch (pattern before after : List ℕ) (answer : ℕ) : Type 0 where
+  pub count-is : (e : Pattern) → patternOf pattern ≡ accepted e → answer ≡ allPlaces e
+  pub built : (e : Pattern) → patternOf pattern ≡ accepted e → Built (placesOf e 1) (allPlaces e) pattern before after
 
 -- building for a search does the same of the pattern with the wrap around it
-pub record BuiltSearch (pattern before after : List ℕ) (answer : ℕ) (e : Pattern) : Type 0 where
-  pub count-is : answer ≡ allPlaces e + 10
-  pub built : Built (placesOf (wrap e) 0) (allPlaces e + 10) pattern before after
+pub record BuiltSearch (pattern before after : List ℕ) (answer : ℕ) : Type 0 where
+  pub count-is : (e : Pattern) → patternOf pattern ≡ accepted e → answer ≡ allPlaces e + 10
+  pub built : (e : Pattern) → patternOf pattern ≡ accepted e → Built (placesOf (wrap e) 0) (allPlaces e + 10) pattern before after

@@ -9,7 +9,7 @@ ghost use Rattle.paper.specs.Refusal.{accepted};
 ghost use Rattle.paper.specs.Pattern.{repeatPlaces};
 ghost use Rattle.paper.specs.Check.{patternOf, upperOf};
 ghost use Rattle.places.specs.Laid.{Kept, entryOf};
-ghost use Rattle.places.specs.Asked.{Fitting, Put, Forked, Capped, insideStart, CountsRight, ownPlaces, OwnPlaces, ownGroups, Counting, Counted, One, OneLaid, Head, HeadLaid, Several, SeveralLaid, Repeating, PassesLaid, Repeat, RepeatLaid, tableRoom, mostPlaces};
+ghost use Rattle.places.specs.Asked.{Fitting, Put, Forked, Capped, insideStart, CountsRight, ownPlaces, OwnPlaces, ownGroups, Counting, Counted, One, OneLaid, Head, HeadLaid, Several, SeveralLaid, Repeating, PassesLaid, Repeat, RepeatLaid, Star, StarLaid, tableRoom};
 ghost use Rattle.places.specs.Built.{Accepted, BuiltMatch, BuiltSearch};
 
 // The numbers of the kinds of place.
@@ -504,4 +504,50 @@ fn row(
             );
         }
     }
+}
+
+// The four places of a repeat without an upper end over any byte, as a search has before and behind its pattern.
+fn any_star(table: &mut [u16], base: usize, mode: usize, next: usize, first: usize)
+    requires { ⌜ Star (now table) base next first ⌝ }
+    ensures { λ _. ⌜ StarLaid base mode next first (now (table .entry)) (now (table .exit)) ⌝ }
+{
+    let inside = base + 1 + 1;
+    let end = inside + 1;
+    pass_fork(table, base, mode, base + 1, next);
+    put(table, base + 1, BEGIN_OPTIONAL, inside, first, 0);
+    put(table, inside, ANY, end, 0, 0);
+    put(table, end, END, base, 0, 0);
+}
+
+// Builds an accepted pattern's places for a whole match, and answers how many they are.
+pub fn build_match(pattern: &[u8], table: &mut [u16]) -> usize
+    requires { ⌜ Accepted (now pattern) ⌝ }
+    requires { ⌜ tableRoom ≤ length (now table) ⌝ }
+    ensures { λ r. ⌜ BuiltMatch (now (pattern .entry)) (now (table .entry)) (now (table .exit)) r ⌝ }
+{
+    let stop = pattern.len();
+    let all = count(pattern, 0, stop);
+    let end = all.places;
+    one(pattern, table, 0, stop, 0, end, 1, end);
+    put(table, end, ACCEPT, 0, 0, 0);
+    end + 1
+}
+
+// Builds an accepted pattern's places for a search, with those of the wrap around it, and answers how many they are.
+pub fn build_search(pattern: &[u8], table: &mut [u16]) -> usize
+    requires { ⌜ Accepted (now pattern) ⌝ }
+    requires { ⌜ tableRoom ≤ length (now table) ⌝ }
+    ensures { λ r. ⌜ BuiltSearch (now (pattern .entry)) (now (table .entry)) (now (table .exit)) r ⌝ }
+{
+    let stop = pattern.len();
+    let all = count(pattern, 0, stop);
+    let places = all.places;
+    let close = 5 + places;
+    let second = close + 1;
+    any_star(table, 0, 1, 4, 0);
+    headed(pattern, table, 0, stop, OPEN, 0, 0, 4, close, 1, places);
+    put(table, close, CLOSE, second, 0, 0);
+    any_star(table, second, 0, second + 4, all.groups + 1);
+    put(table, second + 4, ACCEPT, 0, 0, 0);
+    second + 5
 }
