@@ -4,7 +4,7 @@ use mathlib.Core.Path.{_≡_}
 use mathlib.Core.Bool.{Bool, true, false, cond}
 use mathlib.Core.List.{List, [], _∷_}
 use lib.ListN.{length}
-use Rattle.paper.specs.Limits.{lineBytes}
+use Rattle.paper.specs.Limits.{lineBytes, absent}
 use Rattle.paper.specs.Rows.{Rows, noRows}
 use Rattle.paper.specs.Machine.{at, fresh, visits, run, Stopped}
 use Rattle.paper.specs.Tables.{decode}
@@ -15,7 +15,7 @@ use Rattle.visit.specs.Shows.{Shows, Carried, Under}
 -- what a position asks: safe tables without its stamp, threads inside, room for those that they carry, and room to count
 pub record Stepping (code pattern : List ℕ) (places p : ℕ) (seen taken threads : List ℕ) (number : ℕ) (list : List ℕ) (steps : ℕ) : Type 0 where
   pub wired : Wired code pattern places (length seen)
-  pub early : p < 65535
+  pub early : p < absent
   pub seen-under : Under p seen
   pub taken-under : Under p taken
   pub taken-long : length taken ≡ places
@@ -38,7 +38,7 @@ pub record Steps (code pattern line : List ℕ) (places p : ℕ) (seen taken fro
 pub record Running (code pattern line : List ℕ) (places start : ℕ) (seen taken one other : List ℕ) : Type 0 where
   pub wired : Wired code pattern places (length seen)
   pub some : 0 < places
-  pub cells : length seen < 65536
+  pub cells : length seen < 2 ^ 16
   pub taken-long : length taken ≡ places
   pub one-long : threadNumbers * (places + 1) ≤ length one
   pub other-long : threadNumbers * (places + 1) ≤ length other

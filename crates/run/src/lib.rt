@@ -1,4 +1,5 @@
 // The positions of the line one after the other: the threads of a list visited in order, and those that they carry.
+use pattern::Spans;
 use visit::Visited;
 ghost use mathlib.Core.Path.{_≡_};
 ghost use mathlib.Core.Bool.{not, _&&_};
@@ -11,11 +12,11 @@ ghost use Rattle.run.specs.Steps.{Stepping, Steps, Running, Runs};
 pub struct Ran {
     pub matched: bool,
     pub steps: u32,
-    pub rows: [u16; 20],
+    pub rows: [u16; Spans::NUMBERS],
 }
 
 // Makes every entry of a table 0.
-pub fn wipe(table: &mut [u16])
+fn wipe(table: &mut [u16])
     ensures { λ _. ⌜ now (table .exit) ≡ replicate (length (now (table .entry))) 0 ⌝ }
 {
     let mut i = 0;
@@ -26,14 +27,14 @@ pub fn wipe(table: &mut [u16])
 }
 
 // Whether another thread is to be visited.
-pub fn more(done: bool, i: usize, number: usize) -> bool
+fn more(done: bool, i: usize, number: usize) -> bool
     ensures { λ r. ⌜ r ≡ (not done && ltb i number) ⌝ }
 {
     if done { false } else { i < number }
 }
 
 // The threads of a list at one position, in order, until one has won.
-pub fn step(
+fn step(
     code: &[u16],
     pattern: &[u8],
     line: &[u8],
@@ -55,7 +56,7 @@ pub fn step(
     let mut done = false;
     let mut goes = true;
     while goes {
-        let place = visit::wide(from[21 * i]);
+        let place = visit::wide(from[visit::THREAD * i]);
         let rows = visit::load(from, i);
         let r = visit::visit(
             code,
@@ -82,7 +83,7 @@ pub fn step(
 }
 
 // Whether the run goes on behind a position: no thread has won, some are carried, and the line has a byte there.
-pub fn proceeds(done: bool, number: usize, at: usize, end: usize) -> bool
+fn proceeds(done: bool, number: usize, at: usize, end: usize) -> bool
     ensures { λ r. ⌜ r ≡ (not done && (ltb 0 number && ltb at end)) ⌝ }
 {
     if done {
@@ -111,7 +112,7 @@ pub fn run(
 {
     wipe(seen);
     wipe(taken);
-    let absent = [65535u16; 20];
+    let absent = [Spans::ABSENT; Spans::NUMBERS];
     visit::store(one, 0, 0, absent);
     let mut at = start;
     let mut number = 1;

@@ -1,11 +1,11 @@
 -- What the small functions of a visit promise: each is the definition's move at a place of some kind, whatever the visit that goes on from there.
-use Prim.Native.Nat.{ℕ, _+_, _*_, _≤_, _<_}
+use Prim.Native.Nat.{ℕ, _+_, _*_, _≤_, _<_, _^_}
 use mathlib.Core.Path.{_≡_}
 use mathlib.Core.Bool.{Bool, true, false, cond}
 use mathlib.Core.List.{List}
 use lib.Dec.{eqb}
 use lib.ListN.{length, getD, set}
-use Rattle.paper.specs.Pattern.{Range}
+use Rattle.paper.specs.Limits.{absent}
 use Rattle.paper.specs.Rows.{Rows}
 use Rattle.paper.specs.Reading.{takes}
 use Rattle.paper.specs.Machine.{Place, Thread, at, State, follow, moveAt}
@@ -41,8 +41,8 @@ pub record Leads (kind a n p level : ℕ) (rows : Rows) (goes : Bool) (level′ 
 -- what a place that leads nowhere at once asks
 pub record Settling (pattern : List ℕ) (p kind next a n : ℕ) (taken list : List ℕ) (count : ℕ) : Type 0 where
   pub last : setPlace ≤ kind
-  pub early : p < 65535
-  pub few : length taken < 65536
+  pub early : p < absent
+  pub few : length taken < 2 ^ 16
   pub inside : kind < stopPlace → next < length taken
   pub ranges : kind ≡ setPlace → a + 2 * n ≤ length pattern
   pub carried : Carried (length taken) (p + 1) taken list count

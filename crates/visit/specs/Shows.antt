@@ -7,6 +7,7 @@ use mathlib.Core.List.{List}
 use mathlib.Core.Option.{Option, none, some}
 use lib.Dec.{eqb}
 use lib.ListN.{length, getD}
+use Rattle.paper.specs.Limits.{absent}
 use Rattle.paper.specs.Rows.{Rows}
 use Rattle.paper.specs.Machine.{State, isSeen, visit, at}
 use Rattle.paper.specs.Tables.{decode}
@@ -39,7 +40,7 @@ pub record Arrives (code pattern : List ℕ) (places p place level : ℕ) (seen 
   pub wired : Wired code pattern places (length seen)
   pub inside : place < places
   pub low : level ≤ wired .deep place
-  pub early : p < 65535
+  pub early : p < absent
   pub under : Under (p + 1) seen
   pub carried : Carried places (p + 1) taken list count
   pub countable : steps + left (p + 1) seen < 2 ^ 32

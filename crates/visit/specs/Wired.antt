@@ -1,6 +1,6 @@
 -- What a table of places must be for a run to stay inside its memory: followers in range, rows that exist, ranges inside the pattern,
 -- and a depth for each place that bounds the levels on which it is reached.
-use Prim.Native.Nat.{ℕ, suc, _+_, _*_, _≤_, _<_}
+use Prim.Native.Nat.{ℕ, _+_, _*_, _≤_, _<_, _^_}
 use mathlib.Core.Path.{_≡_}
 use mathlib.Core.Bool.{cond}
 use mathlib.Core.List.{List}
@@ -37,7 +37,7 @@ levelAfter kind level = cond (eqb kind endPlace) 0 (cond (eqb kind beginOptional
 -- An end has no rule for the depth: it leads on only from level 0, back to where a pass began
 pub record Wired (code pattern : List ℕ) (places cells : ℕ) : Type 0 where
   pub deep : ℕ → ℕ
-  pub few : places < 65536
+  pub few : places < 2 ^ 16
   pub long : placeNumbers * places ≤ length code
   pub room : (x : ℕ) → x < places → deep x * places + x < cells
   pub follows : (x : ℕ) → x < places → kindAt code x < stopPlace → nextAt code x < places

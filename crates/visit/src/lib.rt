@@ -1,20 +1,42 @@
 // One position of the line: an arrival at a place with all that it leads to there. The tables are lent; nothing is allocated.
+use pattern::Spans;
 ghost use mathlib.Core.Path.{_≡_};
 ghost use mathlib.Core.Bool.{not};
 ghost use Prim.Native.Nat.{ℕ, _+_, _*_, _≤_, _<_, _^_};
 ghost use lib.Dec.{eqb};
 ghost use lib.ListN.{length, getD, set};
+ghost use Rattle.paper.specs.Limits.{rowCount};
 ghost use Rattle.paper.specs.Rows.{clear};
 ghost use Rattle.paper.specs.Reading.{inSet};
 ghost use Rattle.paper.specs.Check.{rangesOf, part};
-ghost use Rattle.paper.specs.Tables.{placeOf};
-ghost use Rattle.visit.specs.Threads.{stored, rowsIn, left};
+ghost use Rattle.paper.specs.Tables.{placeOf, placeNumbers, forkPlace, setPlace};
+ghost use Rattle.visit.specs.Threads.{threadNumbers, stored, rowsIn};
 ghost use Rattle.visit.specs.Wired.{kindAt, nextAt, firstAt, manyAt, Slots};
 ghost use Rattle.visit.specs.Shows.{Arrives, Visits};
 ghost use Rattle.visit.specs.Moves.{takesAt, Carries, Leads, Settling, Settles};
 
+// The numbers of a thread in a list: its place, and its rows.
+pub const THREAD: usize = Spans::NUMBERS + 1;
+
+// The kinds of place. Those before END and END itself lead on at once; a fork does to two places.
+const FORK: usize = 0;
+
+const OPEN: usize = 1;
+
+const CLOSE: usize = 2;
+
+const BEGIN_OPTIONAL: usize = 4;
+
+const END: usize = 5;
+
+const SET: usize = 6;
+
+const ANY: usize = 7;
+
+const ACCEPT: usize = 9;
+
 // The four numbers of a place.
-pub struct Numbers {
+struct Numbers {
     pub kind: usize,
     pub next: usize,
     pub a: usize,
@@ -22,13 +44,13 @@ pub struct Numbers {
 }
 
 // Where a place leads at once: whether it does, and the level there.
-pub struct Onward {
+struct Onward {
     pub goes: bool,
     pub level: usize,
 }
 
 // What a place that leads nowhere at once leaves: how many threads are carried, and whether a thread has won.
-pub struct Settled {
+struct Settled {
     pub count: usize,
     pub done: bool,
 }
@@ -48,8 +70,8 @@ pub fn wide(x: u16) -> usize
 }
 
 // The numbers of a place.
-pub fn numbers_of(code: &[u16], place: usize) -> Numbers
-    requires { ⌜ 4 * place + 3 < length (now code) ⌝ }
+fn numbers_of(code: &[u16], place: usize) -> Numbers
+    requires { ⌜ placeNumbers * place + 3 < length (now code) ⌝ }
     ensures { λ r. ⌜ (r .kind ≡ kindAt (now (code .entry)) place) × (r .next ≡ nextAt (now (code .entry)) place) × (r .a ≡ firstAt (now (code .entry)) place) × (r .n ≡ manyAt (now (code .entry)) place) ⌝ }
 {
     let b = 4 * place;
@@ -62,7 +84,7 @@ pub fn numbers_of(code: &[u16], place: usize) -> Numbers
 }
 
 // Whether ranges of the pattern, left to right, hold a byte.
-pub fn in_set(pattern: &[u8], offset: usize, count: usize, byte: u8) -> bool
+fn in_set(pattern: &[u8], offset: usize, count: usize, byte: u8) -> bool
     requires { ⌜ offset + 2 * count ≤ length (now pattern) ⌝ }
     ensures { λ r. ⌜ r ≡ inSet (rangesOf (part (now (pattern .entry)) offset (offset + 2 * count))) byte ⌝ }
 {
@@ -80,17 +102,17 @@ pub fn in_set(pattern: &[u8], offset: usize, count: usize, byte: u8) -> bool
     false
 }
 
-// Whether a place takes the byte at a position. Kind 6 is a set of the pattern, 7 the set of every byte.
-pub fn eats(pattern: &[u8], line: &[u8], kind: usize, a: usize, n: usize, at: u16) -> bool
-    requires { ⌜ (kind ≡ 6 → a + 2 * n ≤ length (now pattern)) ⌝ }
+// Whether a place takes the byte at a position. A set of the pattern, or the set of every byte.
+fn eats(pattern: &[u8], line: &[u8], kind: usize, a: usize, n: usize, at: u16) -> bool
+    requires { ⌜ (kind ≡ setPlace → a + 2 * n ≤ length (now pattern)) ⌝ }
     ensures { λ r. ⌜ ((next : ℕ) → r ≡ takesAt (placeOf (now (pattern .entry)) kind next a n) (now (line .entry)) at) ⌝ }
 {
     let p = wide(at);
     if p < line.len() {
-        if kind == 6 {
+        if kind == SET {
             return in_set(pattern, a, n, line[p]);
         }
-        if kind == 7 {
+        if kind == ANY {
             return true;
         }
     }
@@ -98,43 +120,43 @@ pub fn eats(pattern: &[u8], line: &[u8], kind: usize, a: usize, n: usize, at: u1
 }
 
 // Makes as many rows from the first on absent.
-pub fn clear_rows(rows: &mut [u16; 20], first: usize, count: usize)
-    requires { ⌜ first + count ≤ 10 ⌝ }
+fn clear_rows(rows: &mut [u16; Spans::NUMBERS], first: usize, count: usize)
+    requires { ⌜ first + count ≤ rowCount ⌝ }
     ensures { λ _. ⌜ now (rows .exit) ≡ clear first count (now (rows .entry)) ⌝ }
 {
     let mut k = first;
     let mut many = count;
     while 0 < many {
-        rows[2 * k] = 65535;
-        rows[2 * k + 1] = 65535;
+        rows[2 * k] = Spans::ABSENT;
+        rows[2 * k + 1] = Spans::ABSENT;
         k = k + 1;
         many = many - 1;
     }
 }
 
 // Writes a thread at an index of a list.
-pub fn store(list: &mut [u16], index: usize, place: u16, groups: [u16; 20])
-    requires { ⌜ 21 * index + 21 ≤ length (now list) ⌝ }
+pub fn store(list: &mut [u16], index: usize, place: u16, groups: [u16; Spans::NUMBERS])
+    requires { ⌜ threadNumbers * index + threadNumbers ≤ length (now list) ⌝ }
     ensures { λ _. ⌜ now (list .exit) ≡ stored (now (list .entry)) index place groups ⌝ }
 {
-    let b = 21 * index;
+    let b = THREAD * index;
     list[b] = place;
     let mut j = 0;
-    while j < 20 {
+    while j < Spans::NUMBERS {
         list[b + 1 + j] = groups[j];
         j = j + 1;
     }
 }
 
 // The rows of the thread at an index of a list.
-pub fn load(list: &[u16], index: usize) -> [u16; 20]
-    requires { ⌜ 21 * index + 21 ≤ length (now list) ⌝ }
+pub fn load(list: &[u16], index: usize) -> [u16; Spans::NUMBERS]
+    requires { ⌜ threadNumbers * index + threadNumbers ≤ length (now list) ⌝ }
     ensures { λ r. ⌜ r ≡ rowsIn (now (list .entry)) index ⌝ }
 {
-    let b = 21 * index + 1;
-    let mut rows = [0u16; 20];
+    let b = THREAD * index + 1;
+    let mut rows = [0u16; Spans::NUMBERS];
     let mut j = 0;
-    while j < 20 {
+    while j < Spans::NUMBERS {
         rows[j] = list[b + j];
         j = j + 1;
     }
@@ -142,7 +164,7 @@ pub fn load(list: &[u16], index: usize) -> [u16; 20]
 }
 
 // Stamps an entry of a table; whether it had another stamp.
-pub fn mark(table: &mut [u16], index: usize, stamp: u16) -> bool
+fn mark(table: &mut [u16], index: usize, stamp: u16) -> bool
     requires { ⌜ index < length (now table) ⌝ }
     ensures { λ r. ⌜ (r ≡ not (eqb (getD (now (table .entry)) index 0) stamp)) × (now (table .exit) ≡ set (now (table .entry)) index stamp) ⌝ }
 {
@@ -152,15 +174,15 @@ pub fn mark(table: &mut [u16], index: usize, stamp: u16) -> bool
 }
 
 // Carries a thread to a follower that none is carried to yet.
-pub fn carry(
+fn carry(
     taken: &mut [u16],
     list: &mut [u16],
     next: usize,
     stamp: u16,
-    groups: [u16; 20],
+    groups: [u16; Spans::NUMBERS],
     count: usize,
 ) -> usize
-    requires { ⌜ (next < length (now taken)) × (next < 65536) × (21 * count + 21 ≤ length (now list)) ⌝ }
+    requires { ⌜ (next < length (now taken)) × (next < 2 ^ 16) × (threadNumbers * count + threadNumbers ≤ length (now list)) ⌝ }
     ensures { λ r. ⌜ Carries (now (taken .entry)) (now (list .entry)) next stamp groups count (now (taken .exit)) (now (list .exit)) r ⌝ }
 {
     if mark(taken, next, stamp) {
@@ -171,27 +193,34 @@ pub fn carry(
     }
 }
 
-// A place that leads on at once, of kind 1 to 5: open, close, begin, begin optional, end. It changes the rows where they stand.
-pub fn lead(kind: usize, a: usize, n: usize, at: u16, level: usize, rows: &mut [u16; 20]) -> Onward
-    requires { ⌜ (0 < kind) × (kind < 6) × (level + 1 < 2 ^ 64) × Slots kind a n ⌝ }
+// A place that leads on at once, after FORK up to END: open, close, begin, begin optional, end. It changes the rows where they stand.
+fn lead(
+    kind: usize,
+    a: usize,
+    n: usize,
+    at: u16,
+    level: usize,
+    rows: &mut [u16; Spans::NUMBERS],
+) -> Onward
+    requires { ⌜ (forkPlace < kind) × (kind < setPlace) × (level + 1 < 2 ^ 64) × Slots kind a n ⌝ }
     ensures { λ r. ⌜ Leads kind a n at level (now (rows .entry)) (r .goes) (r .level) (now (rows .exit)) ⌝ }
 {
-    if kind == 1 {
+    if kind == OPEN {
         rows[2 * a] = at;
         return Onward { goes: true, level };
     }
-    if kind == 2 {
+    if kind == CLOSE {
         rows[2 * a + 1] = at;
         return Onward { goes: true, level };
     }
-    if kind == 5 {
+    if kind == END {
         return Onward {
             goes: level == 0,
             level: 0,
         };
     }
     clear_rows(rows, a, n);
-    if kind == 4 {
+    if kind == BEGIN_OPTIONAL {
         return Onward {
             goes: true,
             level: level + 1,
@@ -200,15 +229,15 @@ pub fn lead(kind: usize, a: usize, n: usize, at: u16, level: usize, rows: &mut [
     Onward { goes: true, level }
 }
 
-// A place that leads nowhere at once, of kind 6 and on: a set, stop, accept. The winner is stored behind the carried threads, uncounted.
-pub fn settle(
+// A place that leads nowhere at once, from SET on: a set, stop, accept. The winner is stored behind the carried threads, uncounted.
+fn settle(
     pattern: &[u8],
     line: &[u8],
     taken: &mut [u16],
     list: &mut [u16],
     here: Numbers,
     at: u16,
-    groups: [u16; 20],
+    groups: [u16; Spans::NUMBERS],
     count: usize,
 ) -> Settled
     requires { ⌜ Settling (now pattern) at (here .kind) (here .next) (here .a) (here .n) (now taken) (now list) count ⌝ }
@@ -221,7 +250,7 @@ pub fn settle(
             count: carried,
             done: false,
         }
-    } else if kind == 9 {
+    } else if kind == ACCEPT {
         if wide(at) == line.len() {
             store(list, count, 0, groups);
             Settled { count, done: true }
@@ -245,7 +274,7 @@ pub fn visit(
     at: u16,
     start: usize,
     height: usize,
-    groups: [u16; 20],
+    groups: [u16; Spans::NUMBERS],
     carried: usize,
     before: u32,
 ) -> Visited
@@ -264,7 +293,7 @@ pub fn visit(
             steps = steps + 1;
             let here = numbers_of(code, place);
             let kind = here.kind;
-            if kind == 0 {
+            if kind == FORK {
                 let r = visit(
                     code,
                     pattern,
@@ -285,7 +314,7 @@ pub fn visit(
                 done = r.done;
                 goes = !done;
                 place = here.a;
-            } else if kind < 6 {
+            } else if kind < SET {
                 let o = lead(kind, here.a, here.n, at, level, &mut rows);
                 level = o.level;
                 goes = o.goes;
