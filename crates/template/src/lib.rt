@@ -1,4 +1,10 @@
 // Templates: their records, checked and read one by one, and what a record puts in, without copying (01, "Replace-all").
+use pattern::Line;
+use pattern::Pattern;
+use pattern::Refusal;
+use pattern::Spans;
+use pattern::Template;
+use records::BEFORE_BODY;
 use records::Header;
 use records::header_at;
 use records::number_at;
@@ -14,34 +20,10 @@ ghost use Rattle.paper.specs.Piece.{rowSpan, spanAt, pieceCall};
 ghost use Rattle.template.specs.Record.{Shows, From, countOf, recordCount, referencesOf, referencesCall, Lawful, Numbered};
 ghost use Rattle.template.specs.Answer.{answerOf, IsPart};
 
-// The limits of 01 that a template, a line and a table are held to.
-const TEMPLATE_BYTES: usize = 1024;
-
-const LINE_BYTES: usize = 65534;
-
-const TABLE_NUMBERS: usize = 20;
-
-const GROUPS: usize = 9;
-
-const ABSENT: usize = 65535;
-
-// The two kinds of a template's records, and the bytes before a record's body.
+// The two kinds of a template's records.
 const LITERAL: usize = 32;
 
 const REFERENCE: usize = 33;
-
-const BEFORE_BODY: usize = 4;
-
-// The refusals of a piece, by their numbers.
-const TEMPLATE_WRONG: usize = 9;
-
-const LINE_TOO_LONG: usize = 11;
-
-const TABLE_TOO_SHORT: usize = 12;
-
-const ROW_WRONG: usize = 15;
-
-const NO_SUCH_PIECE: usize = 16;
 
 // What stands at an offset of a template.
 pub enum Record {
@@ -94,7 +76,7 @@ pub fn record_at(template: &[u8], at: usize) -> Record
         return Record::Wrong;
     }
     let row = number_at(template, start);
-    if row <= GROUPS {
+    if row <= Pattern::GROUPS {
         Record::Reference { row, next: end }
     } else {
         Record::Wrong
@@ -105,7 +87,7 @@ pub fn record_at(template: &[u8], at: usize) -> Record
 pub fn check_template(template: &[u8]) -> Counted
     ensures { λ r. ⌜ countOf r ≡ recordCount (now (template .entry)) ⌝ }
 {
-    if TEMPLATE_BYTES < template.len() {
+    if Template::BYTES < template.len() {
         return Counted::Wrong(0);
     }
     let mut at = 0;
@@ -176,20 +158,22 @@ fn row_part(size: usize, table: &[u16], row: usize) -> Answer
     requires { ⌜ (row ≤ patternGroups) × (tableNumbers ≤ length (now table)) ⌝ }
     ensures { λ r. ⌜ answerOf r ≡ rowSpan size (rowStart row (now (table .entry))) (rowEnd row (now (table .entry))) ⌝ }
 {
-    let start = table[2 * row] as usize;
-    let end = table[2 * row + 1] as usize;
-    if start == ABSENT {
-        if end == ABSENT {
+    let first = table[2 * row];
+    let last = table[2 * row + 1];
+    if first == Spans::ABSENT {
+        if last == Spans::ABSENT {
             return Answer::Line { start: 0, end: 0 };
         }
     }
+    let start = first as usize;
+    let end = last as usize;
     if start <= end {
         if end <= size {
             return Answer::Line { start, end };
         }
     }
     Answer::Refused {
-        number: ROW_WRONG,
+        number: Refusal::ROW_WRONG,
         place: 0,
     }
 }
@@ -202,7 +186,7 @@ fn record_part(template: &[u8], size: usize, table: &[u16], number: usize) -> An
     let at = place_of(template, number);
     match record_at(template, at) {
         Record::Wrong => Answer::Refused {
-            number: TEMPLATE_WRONG,
+            number: Refusal::TEMPLATE_WRONG,
             place: at,
         },
         Record::Literal { start, end } => Answer::Template { start, end },
@@ -216,25 +200,25 @@ pub fn piece(template: &[u8], line: &[u8], table: &[u16], number: usize) -> Answ
 {
     match check_template(template) {
         Counted::Wrong(place) => Answer::Refused {
-            number: TEMPLATE_WRONG,
+            number: Refusal::TEMPLATE_WRONG,
             place,
         },
         Counted::Records(count) => {
-            if LINE_BYTES < line.len() {
+            if Line::BYTES < line.len() {
                 return Answer::Refused {
-                    number: LINE_TOO_LONG,
+                    number: Refusal::LINE_TOO_LONG,
                     place: 0,
                 };
             }
-            if table.len() < TABLE_NUMBERS {
+            if table.len() < Spans::NUMBERS {
                 return Answer::Refused {
-                    number: TABLE_TOO_SHORT,
+                    number: Refusal::TABLE_TOO_SHORT,
                     place: 0,
                 };
             }
             if count <= number {
                 return Answer::Refused {
-                    number: NO_SUCH_PIECE,
+                    number: Refusal::NO_SUCH_PIECE,
                     place: 0,
                 };
             }

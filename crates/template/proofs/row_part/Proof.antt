@@ -33,37 +33,37 @@ there c =
 
 -- ---- the needs
 
-mul-start : tie.Need-mul-start
-mul-start c = search needs
+mul-first : tie.Need-mul-first
+mul-first c = search needs
 
-mul-start-2 : tie.Need-mul-start-2
-mul-start-2 c = search needs
+mul-first-2 : tie.Need-mul-first-2
+mul-first-2 c = search needs
 
-shared-slice-read-start : tie.Need-shared-slice-read-start
-shared-slice-read-start c = search needs
+shared-slice-read-first : tie.Need-shared-slice-read-first
+shared-slice-read-first c = search needs
 
-cast-start : tie.Need-cast-start
-cast-start c = omega (arith, c .shared-slice-known .given (2 * c .before .args .row))
+mul-last : tie.Need-mul-last
+mul-last c = search needs
 
-mul-end : tie.Need-mul-end
-mul-end c = search needs
+add-last : tie.Need-add-last
+add-last c = search needs
 
-add-end : tie.Need-add-end
-add-end c = search needs
+mul-last-2 : tie.Need-mul-last-2
+mul-last-2 c = search needs
 
-mul-end-2 : tie.Need-mul-end-2
-mul-end-2 c = search needs
-
-shared-slice-read-end : tie.Need-shared-slice-read-end
-shared-slice-read-end c = search needs
-
-cast-end : tie.Need-cast-end
-cast-end c = omega (arith, c .shared-slice-known2 .given (2 * c .before .before .args .row + 1))
+shared-slice-read-last : tie.Need-shared-slice-read-last
+shared-slice-read-last c = search needs
 
 returns : tie.Need-returns
 returns c =
     let s = c .before .before .before .before in
     row-absent (s .args .size) (start s) (end s) (c .before .if1 .taken) (c .if2 .taken) ∙ read s
+
+cast-start : tie.Need-cast-start
+cast-start c = omega (arith, c .before .shared-slice-known2 .given (2 * c .before .before .before .args .row))
+
+cast-end : tie.Need-cast-end
+cast-end c = omega (arith, c .before .shared-slice-known2 .given (2 * c .before .before .before .args .row + 1))
 
 returns-2 : tie.Need-returns-2
 returns-2 c =
@@ -84,16 +84,16 @@ pub row-part-spec : {M : Type 1} → statement M
 row-part-spec =
     tie.close
     (tie.spec
-    mul-start
-    mul-start-2
-    shared-slice-read-start
-    cast-start
-    mul-end
-    add-end
-    mul-end-2
-    shared-slice-read-end
-    cast-end
+    mul-first
+    mul-first-2
+    shared-slice-read-first
+    mul-last
+    add-last
+    mul-last-2
+    shared-slice-read-last
     returns
+    cast-start
+    cast-end
     returns-2
     returns-3
     returns-4)
