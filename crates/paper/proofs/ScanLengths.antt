@@ -1,19 +1,19 @@
 -- How long replace-all's output can be: each turn copies two parts of the line and puts in a part of the template or of the line for each record,
 -- each record takes a byte of the template at least, and there are at most as many turns as the line has bytes, and one.
 use Prim.Native.Nat.{ℕ, zero, suc, _+_, _-_, _*_, _^_, _≤_, _<_}
-use mathlib.Core.Path.{_≡_, refl, sym, ap, subst, _∙_}
+use mathlib.Core.Path.{_≡_, refl, sym, subst}
 use mathlib.Core.Bool.{Bool, true, false, cond}
 use mathlib.Core.List.{List, [], _∷_, _++_}
-use mathlib.Core.Option.{Option, none, some, Option·map}
+use mathlib.Core.Option.{Option, none, Option·map}
 use native.Mathlib.Omega.{arith}
 use native.Mathlib.Nat.{le-trans, mul-le-mul, mul-le-mul-right, suc-mul}
 use lib.Dec.{leb, eqb, lit<}
-use lib.ListN.{length, take, drop, length-append, length-take, length-drop}
+use lib.ListN.{length, drop, length-append, length-take, length-drop}
 use borrow.Author.Tests.{leb-true}
 use Rattle.paper.specs.Limits.{templateBytes, lineBytes, absent}
 use Rattle.paper.specs.Refusal.{accepted, templateWrong}
 use Rattle.paper.specs.Pattern.{Pattern}
-use Rattle.paper.specs.Check.{part, bodyEnd}
+use Rattle.paper.specs.Check.{part}
 use Rattle.paper.specs.Rows.{Rows, rowStart, rowEnd}
 use Rattle.paper.specs.Match.{search, searchSteps}
 use Rattle.paper.specs.Template.{Piece, literal, reference, piecesFrom, templateOf}
@@ -21,7 +21,7 @@ use Rattle.paper.specs.Replace.{moved, rowBytes, putIn, Scanned, before,
 use Rattle.paper.proofs.Accepted.{holds-accepted}
 use Rattle.paper.proofs.Turns.{pieces-induction}
 use Rattle.paper.proofs.ScanTurns.{scanOr}
-use Rattle.paper.proofs.ScanWays.{Turn, turnOf, turnBytes, turnCount, turnRest, ended, search-turn, TurnFits, turn-fits, scan-whole}
+use Rattle.paper.proofs.ScanWays.{Turn, turnOf, turnBytes, turnCount, ended, search-turn, TurnFits, turn-fits, scan-whole}
 
 -- a part is as long as from its start to its end, where that lies inside
 pub part-length : (l : List ℕ) (start end : ℕ) → end ≤ length l → length (part l start end) ≡ end - start

@@ -1,26 +1,25 @@
 -- The scan of replace-all one search at a time: what a turn copies and puts in, where it goes on, and that the whole is the turns one after another.
 -- With as many searches as bytes are left, and one, the scan from a position is one turn put before the scan from where that turn goes on.
-use Prim.Native.Nat.{ℕ, zero, suc, _+_, _-_, _*_, _≤_, _<_}
+use Prim.Native.Nat.{ℕ, suc, _+_, _-_, _*_, _≤_, _<_}
 use mathlib.Core.Path.{_≡_, refl, sym, ap, ap₂, subst, _∙_}
 use mathlib.Core.Bool.{Bool, true, false, cond, not}
-use mathlib.Core.List.{List, [], _∷_, _++_, append-nil, append-assoc}
+use mathlib.Core.List.{List, [], _++_, append-nil, append-assoc}
 use mathlib.Core.Option.{Option, none, some, Option·map}
 use native.Mathlib.Omega.{arith}
 use native.Mathlib.Nat.{sub-self}
 use lib.Dec.{ltb}
 use lib.ListN.{length, take, drop, length-drop, length-map, List·getD-map}
 use lib.Seq.{take-all}
-use borrow.Author.Tests.{ltb-true, ltb-false}
+use borrow.Author.Tests.{ltb-true}
 use Rattle.paper.specs.Limits.{lineBytes, absent}
 use Rattle.paper.specs.Pattern.{Pattern, groups}
 use Rattle.paper.specs.Check.{part}
 use Rattle.paper.specs.Rows.{Rows, noRows, rowStart, rowEnd}
 use Rattle.paper.specs.Match.{search, searchSteps}
 use Rattle.paper.specs.Template.{Piece}
-use Rattle.paper.specs.Replace.{movedBy, moved, putIn, Scanned, before, suppressed, Scan, goOn, afterMatch, afterSearch, replaceAll}
+use Rattle.paper.specs.Replace.{movedBy, moved, putIn, Scanned, before, suppressed, Scan, goOn, afterSearch, replaceAll}
 use Rattle.paper.proofs.RowsKept.{RowFits, away, spans, RowsFit, noRows-fit}
 use Rattle.paper.proofs.AnswerRows.{Answered, AnswerRows, search-rows}
-use Rattle.paper.proofs.Moved.{true-place}
 use Rattle.paper.proofs.ScanTurns.{Ahead, match-ahead, spans-moved, afterSearch-agree, scanOr, enough-searches-or, enough-searches}
 
 -- a scan that has come to its end gives nothing more
@@ -187,9 +186,13 @@ rows-moved-fit n p rows small inside fit = record { numbers = length-map rows (m
         let here = spans-moved n p k rows small inside (s, e) in
         spans (omega arith) (omega arith)
 
--- the turn of a search from p lies so
+-- the turn that the scan makes at a position
+abbrev pub turnAt : Pattern → List ℕ → ℕ → Option ℕ → Turn
+turnAt e line p last = turnOf (length line) last (Option·map (moved p) (search e (drop p line)))
+
+-- the turn at a position lies so
 pub turn-fits : (e : Pattern) (line : List ℕ) (p : ℕ) (last : Option ℕ) → length line ≤ lineBytes → p ≤ length line
-    → TurnFits (length line) p (turnOf (length line) last (Option·map (moved p) (search e (drop p line))))
+    → TurnFits (length line) p (turnAt e line p last)
 turn-fits e line p last small inside = look (search e (drop p line)) (match-ahead e line p small inside) (search-rows e (drop p line))
   where
     look : (o : Option Rows)
@@ -219,10 +222,6 @@ module _ (e : Pattern) (template line : List ℕ) (pieces : List Piece) where
   abbrev pub scanFrom : Scan
   scanFrom p last = scanOr (λ q next. ended) (suc (length line - p)) e template line pieces p last
 
-  -- the turn that the scan makes at a position
-  abbrev pub turnAt : ℕ → Option ℕ → Turn
-  turnAt p last = turnOf (length line) last (Option·map (moved p) (search e (drop p line)))
-
   module _ (small : length line ≤ lineBytes) where
     -- replace-all is the scan from the line's start
     pub scan-whole : scanFrom 0 none ≡ replaceAll e template pieces line
@@ -231,7 +230,7 @@ module _ (e : Pattern) (template line : List ℕ) (pieces : List Piece) where
     -- the scan from a position is its turn, and then the scan from where the turn goes on
     pub scan-turn : (p : ℕ) (last : Option ℕ) → p ≤ length line
         → scanFrom p last
-        ≡ before (turnBytes template line pieces p (turnAt p last)) (turnCount (turnAt p last)) (searchSteps e (drop p line)) (turnRest scanFrom (turnAt p last))
+        ≡ before (turnBytes template line pieces p (turnAt e line p last)) (turnCount (turnAt e line p last)) (searchSteps e (drop p line)) (turnRest scanFrom (turnAt e line p last))
     scan-turn p last inside =
         afterSearch-agree (scanOr (λ q next. ended) (length line - p) e template line pieces) scanFrom template line pieces p last
         (searchSteps e (drop p line))

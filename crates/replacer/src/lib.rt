@@ -1,0 +1,2 @@
+// Replace-all: the line with the template put in for each match (01, "Replace-all").
+mod writing;
