@@ -2,6 +2,7 @@
 
 mod asks;
 mod lent;
+mod order;
 #[path = "../../plain/plain.rs"]
 mod plain;
 mod random;

@@ -2,6 +2,7 @@
 //! tables and buffers of all lengths. TOJALINDA_CASES says how many of each.
 
 use crate::asks::{all_agree, Ask, Told};
+use crate::reference;
 use tojalinda::{calls, Part, Tree};
 
 /// A small generator (xorshift64*), so that a case can be run again by its seed.
@@ -57,6 +58,11 @@ fn set(random: &mut Random) -> Tree {
     }
     if random.one_in(12) {
         return many_pairs(random);
+    }
+    if random.one_in(40) {
+        // Two pairs that may touch, overlap, stand the wrong way round or run down.
+        let ends: [u8; 4] = std::array::from_fn(|_| random.pick(b"abcde"));
+        return Tree::set([(ends[0], ends[1]), (ends[2], ends[3])]);
     }
     let low = byte(random);
     Tree::range(low, low.saturating_add(random.pick(&[0, 0, 0, 1, 2])))
@@ -133,7 +139,7 @@ fn taken(random: &mut Random, tree: &Tree, line: &mut Vec<u8>) {
         Tree::Set(pairs) if pairs.is_empty() => {}
         Tree::Set(pairs) => {
             let (low, high) = random.pick(pairs);
-            line.push(low + random.below(usize::from(high - low) + 1) as u8);
+            line.push(low.saturating_add(random.below(usize::from(high.saturating_sub(low)) + 1) as u8));
         }
         Tree::Group(inner) => taken(random, inner, line),
         Tree::Sequence(members) => members.iter().for_each(|member| taken(random, member, line)),
@@ -200,12 +206,13 @@ fn pattern(random: &mut Random) -> (Tree, Vec<u8>) {
     (tree, records)
 }
 
-fn template(random: &mut Random) -> Vec<u8> {
+/// A template whose references are mostly to rows up to `row`.
+fn template(random: &mut Random, row: u64) -> Vec<u8> {
     let parts: Vec<Part> = (0..random.pick(&[0, 1, 2, 2, 3, 4]))
         .map(|_| match random.below(2) {
             0 => Part::Literal((0..1 + random.below(3)).map(|_| byte(random)).collect()),
-            _ if random.one_in(40) => Part::Reference(10),
-            _ => Part::Reference(random.pick(&[0, 0, 1, 1, 2, 3, 9])),
+            _ if random.one_in(12) => Part::Reference(random.below(11) as u16),
+            _ => Part::Reference(random.below(row as usize + 1) as u16),
         })
         .collect();
     let mut records = Part::records(&parts);
@@ -298,6 +305,25 @@ fn matches_and_searches() {
     });
 }
 
+/// The reference is right by its reading, which gives up where it takes too long: that must be seldom.
+#[test]
+fn the_reading_decides() {
+    crate::with_room(|| {
+        let (mut answers, mut decided) = (0, 0);
+        for seed in 0..cases(10_000) {
+            let random = &mut Random::new(seed);
+            let (tree, pattern) = pattern(random);
+            let line = line(random, &tree);
+            if let Ok(checked) = reference::check(&pattern) {
+                let answer = reference::answer(&checked, random.one_in(2), &line);
+                answers += 1;
+                decided += u64::from(answer.decided);
+            }
+        }
+        assert!(10 * decided > 9 * answers, "the reading decides only {decided} of {answers}");
+    });
+}
+
 #[test]
 fn replacing() {
     crate::with_room(|| {
@@ -306,8 +332,9 @@ fn replacing() {
             let random = &mut Random::new(seed);
             let (tree, pattern) = pattern(random);
             let line = line(random, &tree);
-            let template = template(random);
-            let room = random.pick(&[0, 1, line.len(), 2 * line.len() + 9, 900]);
+            let groups = reference::check(&pattern).map_or(1, |checked| checked.groups);
+            let template = template(random, groups);
+            let room = random.pick(&[0, line.len(), 2 * line.len() + 9, 900, 900]);
             let mut ask = Ask::Replace { pattern, template, line, buffer: vec![0xa5; room] };
             let told = all_agree(&ask);
             tally.count(&told);
@@ -327,7 +354,7 @@ fn pieces() {
         let (cases, mut tally) = (cases(40_000), Tally::default());
         for seed in 0..cases {
             let random = &mut Random::new(seed);
-            let template = template(random);
+            let template = template(random, 9);
             let length = random.length();
             let line: Vec<u8> = (0..length).map(|_| byte(random)).collect();
             let table = table(random, line.len());

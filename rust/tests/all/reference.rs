@@ -279,12 +279,13 @@ impl Reading<'_> {
     }
 }
 
-/// How deep a reading may nest.
+/// How much a reading may try, and how deep it may nest.
+const TRIES: u64 = 20_000;
 const NESTING: u32 = 2_000;
 
 /// The first outcome of the reading that ends at the line's end; `None` where finding it takes too long.
-fn first_outcome(expression: &Expression, line: &[u8], tries: u64) -> Option<Option<Rows>> {
-    let reading = Reading { line, tries: tries.into() };
+fn first_outcome(expression: &Expression, line: &[u8]) -> Option<Option<Rows>> {
+    let reading = Reading { line, tries: TRIES.into() };
     let mut first = None;
     let found = reading.read(expression, 0, [None; GROUPS + 1], NESTING, &mut |end, rows, _| {
         if end == line.len() {
@@ -437,11 +438,11 @@ fn run_machine(expression: &Expression, line: &[u8]) -> (Option<Rows>, u64) {
 
 // ---- Whole match and search ----
 
-/// The rows, if there is a match, and the steps.
-#[derive(Clone, Debug, PartialEq, Eq)]
+/// The rows, if there is a match, the steps, and whether the reading told the rows as well as the machine.
 pub struct Answer {
     pub rows: Option<Rows>,
     pub steps: u64,
+    pub decided: bool,
 }
 
 /// The pattern wrapped for a search: the added group is row 0.
@@ -453,12 +454,13 @@ fn wrapped(expression: &Expression) -> Expression {
     Sequence(vec![any(true), Group(0, Box::new(expression.clone())), any(false)])
 }
 
-/// The answer of a checked pattern on a line of any length. The reading decides the rows; where it takes more than
-/// `tries`, the machine's stand alone.
-pub fn answer(checked: &Checked, search: bool, line: &[u8], tries: u64) -> Answer {
+/// The answer of a checked pattern on a line of any length. The reading decides the rows; where it takes too long, the
+/// machine's stand alone.
+pub fn answer(checked: &Checked, search: bool, line: &[u8]) -> Answer {
     let expression = if search { wrapped(&checked.expression) } else { checked.expression.clone() };
     let (rows, steps) = run_machine(&expression, line);
-    if let Some(read) = first_outcome(&expression, line, tries) {
+    let read = first_outcome(&expression, line);
+    if let Some(read) = read {
         assert_eq!(rows, read, "the list machine's rows are not the reading's: {expression:?} on {line:?}");
     }
     let whole = |mut rows: Rows| {
@@ -467,11 +469,8 @@ pub fn answer(checked: &Checked, search: bool, line: &[u8], tries: u64) -> Answe
         }
         rows
     };
-    Answer { rows: rows.map(whole), steps }
+    Answer { rows: rows.map(whole), steps, decided: read.is_some() }
 }
-
-/// How many outcomes the reading may try by default.
-pub const TRIES: u64 = 20_000;
 
 /// The span table that rows stand in.
 pub fn table(rows: Option<Rows>) -> [u16; NUMBERS] {
@@ -494,7 +493,7 @@ pub fn fill(pattern: &[u8], search: bool, line: &[u8], lent: &mut [u16]) -> Resu
     if lent.len() < NUMBERS {
         return Err((12, 0));
     }
-    let answer = answer(&checked, search, line, TRIES);
+    let answer = answer(&checked, search, line);
     lent[..NUMBERS].copy_from_slice(&table(answer.rows));
     Ok(answer)
 }
@@ -563,7 +562,7 @@ fn replace_lawful(checked: &Checked, template: &[u8], parts: &[(usize, Part)], l
     let mut p = 0;
     while p <= line.len() {
         let rest = &line[p..];
-        let answer = answer(checked, true, rest, TRIES);
+        let answer = answer(checked, true, rest);
         done.steps += answer.steps;
         let Some(rows) = answer.rows else {
             done.output.extend(rest);
