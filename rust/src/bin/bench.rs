@@ -5,20 +5,22 @@
 //!                                             nanoseconds per call with a built machine, then the rows
 //!
 //! A row of the table is measured in turns, ours and then plain C, so that both meet the same disturbances; each
-//! number is the median of the turns.
+//! number is the median of the turns, in processor time of this thread, which other programs disturb little.
 
 #[path = "../../plain/plain.rs"]
 mod plain;
 
 use std::hint::black_box;
 use std::process::ExitCode;
-use std::time::{Duration, Instant};
 use tojalinda::{calls, raw, Mode, Pattern, Tree};
 
 /// How often each of the two is measured.
 const TURNS: usize = 41;
-/// How long one measurement takes at least.
-const TURN: Duration = Duration::from_millis(4);
+/// How long one measurement takes, in nanoseconds.
+const TURN: f64 = 4e6;
+
+/// The length of a health line.
+const SHORT: usize = 73;
 
 fn main() -> ExitCode {
     let arguments: Vec<String> = std::env::args().skip(1).collect();
@@ -43,14 +45,37 @@ fn main() -> ExitCode {
 
 // ---- Measuring ----
 
-/// How often a call has to be made to take a turn.
+/// The processor time that this thread has used, in nanoseconds.
+fn clock() -> f64 {
+    #[repr(C)]
+    struct Time {
+        seconds: i64,
+        nanoseconds: i64,
+    }
+    const OF_THIS_THREAD: i32 = 3;
+    extern "C" {
+        fn clock_gettime(clock: i32, time: *mut Time) -> i32;
+    }
+    let mut time = Time { seconds: 0, nanoseconds: 0 };
+    // Safe: it writes one time, laid out as 64-bit Linux has it.
+    assert_eq!(unsafe { clock_gettime(OF_THIS_THREAD, &mut time) }, 0);
+    time.seconds as f64 * 1e9 + time.nanoseconds as f64
+}
+
+/// Nanoseconds for so many calls.
+fn duration(call: &mut dyn FnMut(), times: u32) -> f64 {
+    let start = clock();
+    (0..times).for_each(|_| call());
+    clock() - start
+}
+
+/// How many calls take a turn.
 fn calls_in_a_turn(call: &mut dyn FnMut()) -> u32 {
     let mut times = 1;
     loop {
-        let start = Instant::now();
-        (0..times).for_each(|_| call());
-        if start.elapsed() >= TURN / 4 {
-            return (times * 4).max(1);
+        let taken = duration(call, times);
+        if taken >= TURN / 8.0 {
+            return (f64::from(times) * TURN / taken).ceil() as u32;
         }
         times *= 2;
     }
@@ -61,27 +86,20 @@ fn ignore<T>(answer: T) {
     let _ = black_box(answer);
 }
 
-/// Nanoseconds per call of each, the median of turns that alternate.
-fn measure<const N: usize>(mut rivals: [&mut dyn FnMut(); N]) -> [f64; N] {
+/// Nanoseconds per call of each, in turns that alternate.
+fn measure<const N: usize>(mut rivals: [&mut dyn FnMut(); N]) -> [[f64; N]; TURNS] {
     let times = rivals.each_mut().map(|call| calls_in_a_turn(call));
-    let mut turns = vec![[0.0; N]; TURNS];
-    for turn in &mut turns {
-        for ((call, times), nanoseconds) in rivals.iter_mut().zip(times).zip(turn) {
-            let start = Instant::now();
-            (0..times).for_each(|_| call());
-            *nanoseconds = start.elapsed().as_nanos() as f64 / f64::from(times);
-        }
-    }
-    std::array::from_fn(|rival| {
-        let mut all: Vec<f64> = turns.iter().map(|turn| turn[rival]).collect();
-        all.sort_by(f64::total_cmp);
-        all[TURNS / 2]
-    })
+    [(); TURNS].map(|_| std::array::from_fn(|rival| duration(rivals[rival], times[rival]) / f64::from(times[rival])))
+}
+
+fn median(mut numbers: [f64; TURNS]) -> f64 {
+    numbers.sort_by(f64::total_cmp);
+    numbers[TURNS / 2]
 }
 
 // ---- The table ----
 
-/// One row: how long ours and plain C take for a call, and what the call does.
+/// One row: what a call does, and how long ours and plain C take for it.
 struct Row {
     name: String,
     bytes: usize,
@@ -89,11 +107,13 @@ struct Row {
     steps: Option<u64>,
     ours: f64,
     plain: f64,
+    ratio: f64,
 }
 
 impl Row {
-    fn ratio(&self) -> f64 {
-        self.ours / self.plain
+    fn new(name: String, bytes: usize, steps: Option<u64>, turns: [[f64; 2]; TURNS]) -> Row {
+        let [ours, plain] = [0, 1].map(|rival| median(turns.map(|turn| turn[rival])));
+        Row { name, bytes, steps, ours, plain, ratio: median(turns.map(|[ours, plain]| ours / plain)) }
     }
 
     fn print(&self) {
@@ -110,7 +130,7 @@ impl Row {
             per(self.plain, self.bytes as f64),
             steps(self.ours),
             steps(self.plain),
-            self.ratio()
+            self.ratio
         );
     }
 }
@@ -126,9 +146,13 @@ fn print_table() {
     );
     println!("{TURNS} turns; plain C by {}.", env!("PLAIN_COMPILER"));
     let runs: Vec<Row> = print_rows(runs().into_iter().map(|(name, mode, tree, line)| run(name, mode, &tree, &line)));
-    println!("\ngeometric mean of ours / plain C: {:.3}", geometric_mean(runs.iter().map(Row::ratio)));
-    let worst = runs.iter().max_by(|a, b| a.ratio().total_cmp(&b.ratio())).expect("there are rows");
-    println!("greatest: {:.2} ({})\n", worst.ratio(), worst.name);
+    println!("\ngeometric mean of ours / plain C: {:.3}", geometric_mean(runs.iter().map(|row| row.ratio)));
+    let greatest = |rows: &mut dyn Iterator<Item = &Row>| rows.map(|row| row.ratio).fold(0.0, f64::max);
+    println!("greatest of all: {:.2}", greatest(&mut runs.iter()));
+    println!(
+        "greatest on lines of up to {SHORT} bytes: {:.2}\n",
+        greatest(&mut runs.iter().filter(|row| row.bytes <= SHORT))
+    );
     println!(
         "Building, which checks first, checking alone, and one call that does all; bytes are the pattern's, steps"
     );
@@ -209,14 +233,14 @@ const NO_HEALTH: &[u8] = b"2026-03-14 05:12 module 07 bay 3 grown -- factory 14 
 
 fn runs() -> Vec<(&'static str, Mode, Tree, Vec<u8>)> {
     use Mode::{Search, Whole};
-    assert!(HEALTH.len() == 73 && NO_HEALTH.len() == 73);
+    assert!(HEALTH.len() == SHORT && NO_HEALTH.len() == SHORT);
     let a = |count: usize| vec![b'a'; count];
     let most = calls::line_bytes();
     vec![
         ("search, health line", Search, health(), HEALTH.to_vec()),
         ("search, health line, none", Search, health(), NO_HEALTH.to_vec()),
         ("search, assignment", Search, assignment(), b"  let grown_count = module.grown + 12; // 7 fields".to_vec()),
-        ("whole, 2 segments", Whole, segments(), segment_line(73)),
+        ("whole, 2 segments", Whole, segments(), segment_line(SHORT)),
         ("whole, segments", Whole, segments(), segment_line(2_000)),
         ("whole, segments, longest", Whole, segments(), segment_line(most)),
         ("search, health, longest", Search, health(), HEALTH.iter().copied().cycle().take(most).collect()),
@@ -224,7 +248,7 @@ fn runs() -> Vec<(&'static str, Mode, Tree, Vec<u8>)> {
         ("search, (a*)*b", Search, star_of_star(), a(2_000)),
         ("whole, (a\\|aa)*c", Whole, overlapping(), a(2_000)),
         ("whole, 15 nested stars", Whole, stars(15, Tree::text("a")), a(2_000)),
-        ("whole, 9 nested groups", Whole, (0..7).fold(Tree::text("a"), |t, _| t.group().star()), a(2_000)),
+        ("whole, 7 nested (a)*", Whole, (0..7).fold(Tree::text("a"), |t, _| t.group().star()), a(2_000)),
         ("whole, a{248}b", Whole, counted(), [a(248), vec![b'b']].concat()),
         ("search, a{248}b", Search, counted(), a(2_000)),
         (
@@ -258,37 +282,36 @@ fn run(name: &str, mode: Mode, tree: &Tree, line: &[u8]) -> Row {
     assert_eq!((outcome.matched, outcome.steps), plain_outcome, "{name}");
     assert_eq!(table[..2 * (pattern.groups() + 1)], plain_table[..2 * (pattern.groups() + 1)], "{name}");
 
-    let [ours, plain] = measure([&mut || ignore(pattern.run(mode, black_box(line), &mut table)), &mut || {
-        ignore(machine.run(black_box(line), &mut plain_table))
-    }]);
-    Row { name: name.to_string(), bytes: line.len(), steps: Some(outcome.steps), ours, plain }
+    let mut ours = || ignore(pattern.run(mode, black_box(line), &mut table));
+    let mut plain = || ignore(machine.run(black_box(line), &mut plain_table));
+    Row::new(name.to_string(), line.len(), Some(outcome.steps), measure([&mut ours, &mut plain]))
 }
 
 /// Measures building for searches, checking, and a search of the health line that does all in one call.
 fn prepare(name: &str, tree: &Tree) -> [Row; 3] {
     let records = &tree.records()[..];
-    let places = Some(calls::check(records).expect("the pattern is lawful").places as u64);
-    let row = |what: &str, steps, [ours, plain]: [f64; 2]| Row {
-        name: format!("{what}, {name}"),
-        bytes: records.len(),
-        steps,
-        ours,
-        plain,
-    };
+    let places = calls::check(records).expect("the pattern is lawful").places as u64;
+    let row = |what: &str, steps, turns| Row::new(format!("{what}, {name}"), records.len(), steps, turns);
+
     let mut machine = vec![0; raw::machine_numbers()];
     let mut plain_machine = plain::Machine::build(records, true).expect("the pattern is lawful");
-    let built = measure([&mut || ignore(raw::build(black_box(records), true, &mut machine, &mut [0; 3])), &mut || {
-        ignore(plain_machine.rebuild(true))
-    }]);
-    let checked =
-        measure([&mut || ignore(calls::check(black_box(records))), &mut || ignore(plain::check(black_box(records)))]);
+    let mut ours = || ignore(raw::build(black_box(records), true, &mut machine, &mut [0; 3]));
+    let mut plain = || ignore(plain_machine.rebuild(true));
+    let build = row("build", Some(places), measure([&mut ours, &mut plain]));
+
+    let mut ours = || ignore(calls::check(black_box(records)));
+    let mut plain = || ignore(plain::check(black_box(records)));
+    let check = row("check", None, measure([&mut ours, &mut plain]));
+
     let mut table = vec![0; calls::table_numbers()];
     let mut plain_table = [0; plain::NUMBERS];
-    let once = measure([&mut || ignore(calls::search(black_box(records), HEALTH, &mut table)), &mut || {
+    let mut ours = || ignore(calls::search(black_box(records), HEALTH, &mut table));
+    let mut plain = || {
         ignore(plain_machine.rebuild(true));
         ignore(plain_machine.run(black_box(HEALTH), &mut plain_table));
-    }]);
-    [row("build", places, built), row("check", None, checked), row("all in one", places, once)]
+    };
+    let all = row("all in one", Some(places), measure([&mut ours, &mut plain]));
+    [build, check, all]
 }
 
 // ---- One pattern and one line ----
@@ -312,7 +335,7 @@ fn print_one(mode: Mode, records: &str, file: &str) -> Result<(), String> {
     } else {
         "none".to_string()
     };
-    let [nanoseconds] = measure([&mut || ignore(pattern.run(mode, black_box(&line), &mut table))]);
-    println!("{nanoseconds:.1} {rows}");
+    let turns = measure([&mut || ignore(pattern.run(mode, black_box(&line), &mut table))]);
+    println!("{:.1} {rows}", median(turns.map(|[nanoseconds]| nanoseconds)));
     Ok(())
 }
