@@ -1,5 +1,5 @@
 #!/bin/sh
-# Builds the proved archive, tests the Rust crate against it, and builds and runs the C program.
+# Builds the proved archive, tests the Rust crate against it, and builds and runs the C programs.
 # With TOJALINDA_VECTORS=<directory> the vectors there are run as well, and TOJALINDA_CASES says how many random cases.
 set -eu
 cd "$(dirname "$0")/.."
@@ -14,7 +14,12 @@ if [ -n "${TOJALINDA_VECTORS:-}" ]; then
 else
     cargo test --offline
 fi
-"${CC:-cc}" -std=c11 -O2 -Wall -Wextra -Werror -Iinclude examples/pick.c "$TOJALINDA_ARCHIVE/libexports.a" -o target/pick
+c_program() {
+    "${CC:-cc}" -std=c11 -O2 -Wall -Wextra -Werror -Iinclude "$1" "$TOJALINDA_ARCHIVE/libexports.a" -o "$2"
+}
+c_program tests/calls.c target/calls
+target/calls
+c_program examples/pick.c target/pick
 target/pick >target/pick.out
 diff target/pick.out examples/pick.txt
 echo "rust: all tests pass"

@@ -135,37 +135,43 @@ impl Row {
     }
 }
 
-fn geometric_mean(ratios: impl Iterator<Item = f64>) -> f64 {
-    let (sum, count) = ratios.fold((0.0, 0), |(sum, count), ratio| (sum + ratio.ln(), count + 1));
-    (sum / f64::from(count)).exp()
-}
-
 fn print_table() {
     println!(
-        "Runs of a built machine; bytes are the line's, steps the list machine's, times in nanoseconds, the median of"
-    );
-    println!("{TURNS} turns; plain C by {}.", env!("PLAIN_COMPILER"));
-    let runs: Vec<Row> = print_rows(runs().into_iter().map(|(name, mode, tree, line)| run(name, mode, &tree, &line)));
-    println!("\ngeometric mean of ours / plain C: {:.3}", geometric_mean(runs.iter().map(|row| row.ratio)));
-    let greatest = |rows: &mut dyn Iterator<Item = &Row>| rows.map(|row| row.ratio).fold(0.0, f64::max);
-    println!("greatest of all: {:.2}", greatest(&mut runs.iter()));
-    println!(
-        "greatest on lines of up to {SHORT} bytes: {:.2}\n",
-        greatest(&mut runs.iter().filter(|row| row.bytes <= SHORT))
+        "Times are nanoseconds of processor time per call, the median of {TURNS} turns, and the ratio is the median of"
     );
     println!(
-        "Building, which checks first, checking alone, and one call that does all; bytes are the pattern's, steps"
+        "theirs; plain C is compiled by {}. Rows with whole or search run a built machine over a line:",
+        env!("PLAIN_COMPILER")
     );
-    println!("are places.");
-    print_rows(preparations().into_iter().flat_map(|(name, tree)| prepare(name, &tree)));
-}
-
-/// Prints rows as they are measured.
-fn print_rows(rows: impl Iterator<Item = Row>) -> Vec<Row> {
+    println!(
+        "bytes are the line's, steps the list machine's. The others build for searches (checking first), check, or"
+    );
+    println!("check, build and search a health line in one call: bytes are the pattern's, steps its places.");
     println!();
     println!("| | bytes | steps | ours | plain C | ours/byte | C/byte | ours/step | C/step | ratio |");
     println!("|---|---:|---:|---:|---:|---:|---:|---:|---:|---:|");
-    rows.inspect(Row::print).collect()
+    let runs = runs().into_iter().map(|(name, mode, tree, line)| run(name, mode, &tree, &line));
+    let runs: Vec<Row> = runs.inspect(Row::print).collect();
+    preparations().into_iter().flat_map(|(name, tree)| prepare(name, &tree)).for_each(|row| row.print());
+
+    let ratios = |rows: &mut dyn Iterator<Item = &Row>| rows.map(|row| row.ratio).collect::<Vec<f64>>();
+    let all = ratios(&mut runs.iter());
+    let short = ratios(&mut runs.iter().filter(|row| row.bytes <= SHORT));
+    println!();
+    println!("runs: geometric mean of the ratios {:.3}, greatest {:.2}", geometric_mean(&all), greatest(&all));
+    println!(
+        "runs on at most {SHORT} bytes: geometric mean {:.3}, greatest {:.2}",
+        geometric_mean(&short),
+        greatest(&short)
+    );
+}
+
+fn geometric_mean(ratios: &[f64]) -> f64 {
+    (ratios.iter().map(|ratio| ratio.ln()).sum::<f64>() / ratios.len() as f64).exp()
+}
+
+fn greatest(ratios: &[f64]) -> f64 {
+    ratios.iter().copied().fold(0.0, f64::max)
 }
 
 // ---- What is measured ----
