@@ -3,18 +3,19 @@
 use Prim.Native.Nat.{ℕ, zero, suc, _+_, _-_, _*_, _≤_, _<_}
 use mathlib.Core.Path.{_≡_, refl, sym, ap, subst, _∙_}
 use mathlib.Core.Bool.{Bool, true, false, cond}
-use mathlib.Core.List.{List, [], _∷_, _++_}
+use mathlib.Core.List.{List, [], _∷_}
 use native.Mathlib.Nat.{le-trans, mul-le-mul-left, mul-le-mul-right}
 use native.Mathlib.Omega.{arith}
 use borrow.Author.Tests.{ne-eqb}
-use lib.Dec.{ltb, eqb}
+use lib.Dec.{ltb}
 use lib.ListN.{length}
-use Rattle.paper.specs.Pattern.{Mode, Upper, upTo, noEnd, Range, Pattern, Members, places, placesOfAll, groups, groupsOfAll, repeatPlaces}
+use Rattle.paper.specs.Pattern.{Mode, Upper, upTo, noEnd, Pattern, Members, places, placesOfAll, groups, groupsOfAll, repeatPlaces}
 use Rattle.paper.specs.Pattern.Pattern.{nothing, empty, bytes, group, sequence, alternation, repeat}
 use Rattle.paper.specs.Pattern.Members.{two, more}
 use Rattle.paper.specs.Pattern as pattern
 use Rattle.paper.specs.Layout.{upperNumber}
 use Rattle.paper.specs.Check.{numberAt, kindAt, bodyStart, bodyEnd, upperOf, repeatHead}
+use Rattle.paper.proofs.MemberList.{listOf}
 use Rattle.places.specs.Standing.{Stands, AllStand, Row, Passes, UpperRight, placesIn, groupsIn}
 use Rattle.places.specs.Asked.{insideStart, CountsRight, ownPlaces, OwnPlaces, ownGroups, Capped, Counting, Counted, Summed}
 
@@ -22,11 +23,7 @@ use Rattle.places.specs.Asked.{insideStart, CountsRight, ownPlaces, OwnP
 pub product-small : (m p : ℕ) → m ≤ 255 → p ≤ 504 → m * p ≤ 128520
 product-small m p few small = le-trans (mul-le-mul-right p few) (mul-le-mul-left 255 small)
 
--- the records of members, and those inside a record
-abbrev pub listOf : Members → List Pattern
-listOf (two a b) = a ∷ b ∷ []
-listOf (more a ms) = a ∷ listOf ms
-
+-- the records inside a record
 abbrev pub held : Pattern → List Pattern
 held nothing = []
 held empty = []

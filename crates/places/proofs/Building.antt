@@ -1,25 +1,22 @@
 -- Building, function by function: what each call is asked for follows from what its caller was, and the places that the calls lay are together those
 -- of the caller's tree. The places are written in ascending order, so each later call leaves what stands before it.
-use Prim.Native.Nat.{ℕ, zero, suc, _+_, _-_, _*_, _/_, _≤_, _<_}
-use mathlib.Core.Path.{_≡_, refl, sym, ap, subst, _∙_}
+use Prim.Native.Nat.{ℕ, _+_, _-_, _≤_, _<_}
+use mathlib.Core.Path.{_≡_, sym, ap, subst, _∙_}
 use mathlib.Core.Bool.{Bool, true, false, cond}
 use mathlib.Core.List.{List, [], _∷_}
 use native.Mathlib.Omega.{arith}
 use borrow.Author.Tests.{eq-eqb, ne-eqb}
 use lib.ListN.{length}
-use Rattle.paper.specs.Pattern.{Mode, greedy, lazy, Upper, upTo, noEnd, Pattern, Members, places, groups, repeatPlaces}
-use Rattle.paper.specs.Pattern.Pattern.{nothing, empty, bytes, group, sequence, alternation, repeat}
-use Rattle.paper.specs.Layout.{upperNumber, modeNumber}
-use Rattle.paper.specs.Check.{numberAt, bodyEnd, bodyStart, kindAt, upperOf, modeOf, repeatHead}
-use Rattle.paper.specs.Machine.{Core, size, writtenOut, musts, optionals, passFork, fork, ending}
+use Rattle.paper.specs.Pattern.{greedy, lazy}
+use Rattle.paper.specs.Check.{modeOf}
+use Rattle.paper.specs.Machine.{Core, size, writtenOut, passFork, ending}
 use Rattle.paper.specs.Tables.{placeOf}
+use Rattle.paper.proofs.Sizes.{size-written}
 use Rattle.places.specs.Laid.{Holds, Kept, Lays, entryOf}
-use Rattle.places.specs.Standing.{Stands, Row, Passes, placesIn, groupsIn, rowPlaces, rowCore}
-use Rattle.places.specs.Asked.{Fitting, Put, Forked, Counting, Counted, Inside, One, OneLaid, Head, HeadLaid, Several, SeveralLaid, Repeating, PassesLaid, Repeat, RepeatLaid, passCore, passPlaces}
-use Rattle.places.proofs.Laying.{holds-kept, plain-holds, put-holds, lays-kept, lays-none, kept-none, kept-both}
-use Rattle.places.proofs.Sizes.{size-places, row-size, pass-size, optional-maybes}
-use Rattle.places.proofs.Entering.{entry-none, entry-some, entry-small, entry-same, passes-some, passes-none, places-must, places-may, core-must, core-none, core-star, core-maybe, must-lays, maybe-lays, star-lays}
-use Rattle.places.proofs.Adding.{upper-named}
+use Rattle.places.specs.Asked.{Fitting, Put, Forked, One, Head, HeadLaid, Several, SeveralLaid, Repeating, PassesLaid, passCore, passPlaces}
+use Rattle.places.proofs.Laying.{holds-kept, plain-holds, lays-kept, lays-none, kept-none, kept-both}
+use Rattle.places.proofs.Sizes.{pass-size}
+use Rattle.places.proofs.Entering.{entry-small, entry-same, passes-some, passes-none, places-must, places-may, core-must, core-none, core-star, core-maybe, must-lays, maybe-lays, star-lays}
 
 -- one record is a row of one
 abbrev pub single : {bs : List ℕ} {at stop base next first n : ℕ} → One bs at stop base next first n → Several bs at stop false base next first n
@@ -56,7 +53,7 @@ head-alone {bs} {base = base} {next = next} {first = first} {p = p} {t1 = t1} ev
     record {
       kept = kept-both base (base + 1 + p) (put .kept) (kept-none base base t1) (omega arith) (omega arith) (omega arith) (omega arith);
       head = head-stands bs ev h put;
-      laid = λ m. lays-none (writtenOut (m .tree) first) t1 bs (base + 1) next (size-places (m .tree) first ∙ sym (m .places-are) ∙ none);
+      laid = λ m. lays-none (writtenOut (m .tree) first) t1 bs (base + 1) next (size-written (m .tree) first ∙ sym (m .places-are) ∙ none);
     }
 
 -- `passes`, a pass that must be made: the pass, then the rest
@@ -99,7 +96,7 @@ must-laid {bs} {at} {stop} {least} {may} {mode} {base} {next} {first} {g} {p} {v
       laid = λ m.
           let e = writtenOut (m .tree) first in
           let rest = passCore (least - 1) endless may (modeOf mode) first g e in
-          let ep : p ≡ size e = m .places-are ∙ sym (size-places (m .tree) first) in
+          let ep : p ≡ size e = m .places-are ∙ sym (size-written (m .tree) first) in
           let er : size rest ≡ passPlaces (least - 1) may p =
           pass-size (least - 1) endless may (modeOf mode) first g e (m .once) ∙ ap (passPlaces (least - 1) may) (sym ep) in
           let eo : v ≡ entryOf (size rest) (base + 1 + p) next =
@@ -164,7 +161,7 @@ module _ {bs : List ℕ} {at stop least may mode base next first g p v : ℕ} {t
       → Kept (base + 1 + 1 + p + 1) (base + 1 + 1 + p + 1 + passPlaces 0 (may - 1) p) t3 t4
       → Lays t4 bs (writtenOut (m .tree) first) (base + 1 + 1) (base + 1 + 1 + p)
   pass-stands m k =
-      let ep : p ≡ size (writtenOut (m .tree) first) = m .places-are ∙ sym (size-places (m .tree) first) in
+      let ep : p ≡ size (writtenOut (m .tree) first) = m .places-are ∙ sym (size-written (m .tree) first) in
       lays-kept (writtenOut (m .tree) first) bs (base + 1 + 1) (base + 1 + 1 + p) k (omega arith)
       (lays-kept (writtenOut (m .tree) first) bs (base + 1 + 1) (base + 1 + 1 + p) (end .kept) (omega arith) (h .laid m))
 
@@ -180,7 +177,7 @@ module _ {bs : List ℕ} {at stop least may mode base next first g p v : ℕ} {t
         kept = may-kept k;
         laid = λ m.
             let e = writtenOut (m .tree) first in
-            let ep : p ≡ size e = m .places-are ∙ sym (size-places (m .tree) first) in
+            let ep : p ≡ size e = m .places-are ∙ sym (size-written (m .tree) first) in
             subst (λ (c : Core). Lays t4 bs c base next) (sym (core-star (modeOf mode) first g e least may none some))
             (star-lays t4 bs (modeOf mode) first g e base next p ep (fork-stands k) (begin-stands k) (pass-stands (may-one m none some) k)
             (subst (λ (v : ℕ). Holds t4 bs (base + 1 + 1 + p) (ending v)) ev (end-stands k)));
@@ -192,7 +189,7 @@ module _ {bs : List ℕ} {at stop least may mode base next first g p v : ℕ} {t
         laid = λ m.
             let e = writtenOut (m .tree) first in
             let rest = passCore 0 false (may - 1) (modeOf mode) first g e in
-            let ep : p ≡ size e = m .places-are ∙ sym (size-places (m .tree) first) in
+            let ep : p ≡ size e = m .places-are ∙ sym (size-written (m .tree) first) in
             let er : size rest ≡ passPlaces 0 (may - 1) p =
             pass-size 0 false (may - 1) (modeOf mode) first g e (may-rest m none some .once) ∙ ap (passPlaces 0 (may - 1)) (sym ep) in
             let eo : v ≡ entryOf (size rest) (base + 1 + 1 + p + 1) next =

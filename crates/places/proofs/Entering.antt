@@ -1,5 +1,5 @@
 -- Where expressions are entered, and how the places of a run of passes are laid from those of one pass and the rest.
-use Prim.Native.Nat.{ℕ, zero, suc, _+_, _-_, _*_, _≤_, _<_}
+use Prim.Native.Nat.{ℕ, zero, suc, _+_, _-_, _*_, _≤_}
 use mathlib.Core.Path.{_≡_, refl, sym, ap, subst, _∙_}
 use mathlib.Core.Bool.{Bool, true, false, cond}
 use mathlib.Core.List.{List}
@@ -8,7 +8,7 @@ use native.Mathlib.Omega.{arith}
 use borrow.Author.Tests.{eq-eqb, ne-eqb}
 use lib.Dec.{eqb}
 use Rattle.paper.specs.Pattern.{Mode}
-use Rattle.paper.specs.Machine.{Core, skip, must, maybe, star, musts, size, entry, passFork, begin, beginOptional, ending}
+use Rattle.paper.specs.Machine.{Core, skip, must, maybe, star, size, passFork, begin, beginOptional, ending}
 use Rattle.places.specs.Laid.{Holds, Lays, entryOf}
 use Rattle.places.specs.Asked.{optionalCore, passCore, passPlaces}
 

@@ -1,5 +1,5 @@
 -- The whole pattern: what building it asks for, and the list of its places, alone or with a search's wrap around it.
-use Prim.Native.Nat.{ℕ, zero, suc, _+_, _-_, _*_, _≤_, _<_}
+use Prim.Native.Nat.{ℕ, suc, _+_, _≤_}
 use mathlib.Core.Path.{_≡_, refl, sym, ap, subst, _∙_}
 use mathlib.Core.List.{List, [], _∷_, _++_}
 use native.Mathlib.Omega.{arith}
@@ -7,17 +7,17 @@ use lib.ListN.{length}
 use Rattle.paper.specs.Pattern.{greedy, lazy, Pattern, places, allPlaces, groups}
 use Rattle.paper.specs.Check.{modeOf}
 use Rattle.paper.specs.Reading.{everyByte}
-use Rattle.paper.specs.Machine.{Core, eats, captures, chain, star, Place, accept, size, lay, writtenOut, placesOf, beginOptional, ending, set, closing}
+use Rattle.paper.specs.Machine.{Core, eats, captures, chain, star, accept, size, lay, writtenOut, placesOf}
 use Rattle.paper.specs.Match.{wrap}
-use Rattle.places.specs.Laid.{Holds, Kept, Lays, entryOf}
-use Rattle.places.specs.Asked.{Put, Forked, Counting, Counted, One, OneLaid, HeadLaid, Star, StarLaid}
+use Rattle.paper.proofs.Sizes.{size-written}
+use Rattle.places.specs.Laid.{Holds, Kept, Lays}
+use Rattle.places.specs.Asked.{Put, Forked, Counting, Counted, One, OneLaid, HeadLaid, StarLaid}
 use Rattle.places.specs.Built.{Built}
 use Rattle.places.proofs.Laying.{holds-kept, plain-holds, put-holds, lays-kept, kept-both}
-use Rattle.places.proofs.Sizes.{size-places}
 use Rattle.places.proofs.Entering.{entry-some, star-lays}
 use Rattle.places.proofs.Records.{captures-lays, chain-lays}
 use Rattle.places.proofs.Walked.{Whole}
-use Rattle.places.proofs.Listing.{listed, Lists, lists-one, lists-both, lays-lists, decode-listed}
+use Rattle.places.proofs.Listing.{listed, lists-one, lists-both, lays-lists, decode-listed}
 
 -- the pattern is one record
 abbrev pub whole-counting : {bs : List ℕ} {e : Pattern} → Whole bs e → Counting bs 0 (length bs)
@@ -63,7 +63,7 @@ pub match-built : {bs t t1 t2 : List ℕ} {e : Pattern} {p : ℕ} → Whole bs e
     → Built (placesOf e 1) (allPlaces e) bs t t2
 match-built {bs} {t} {t1} {t2} {e} {p} w same o put =
     let c = writtenOut e 1 in
-    let long : p ≡ size c = same ∙ sym (size-places e 1) in
+    let long : p ≡ size c = same ∙ sym (size-written e 1) in
     let laid = lays-kept c bs 0 p (put .kept) (omega arith) (o .laid (whole-one 0 p w same (omega (arith, w .few-places)) (omega (arith, w .few-places)))) in
     let last = put-holds bs put (omega arith) (λ six. absurd (omega arith)) in
     let kept = kept-both 0 (allPlaces e) (o .kept) (put .kept) (omega arith) (omega arith) (omega arith) (omega arith) in
@@ -94,7 +94,7 @@ pub search-built : {bs t t1 t2 t3 t4 t5 : List ℕ} {e : Pattern} {p g : ℕ} �
     → Built (placesOf (wrap e) 0) (allPlaces e + 10) bs t t5
 search-built {bs} {t} {t1} {t2} {t3} {t4} {t5} {e} {p} {g} w same sameg s h close z put =
     let inner = writtenOut e 1 in
-    let long : p ≡ size inner = same ∙ sym (size-places e 1) in
+    let long : p ≡ size inner = same ∙ sym (size-written e 1) in
     let any = eats everyByte in
     let before = star lazy 0 0 any in
     let group = captures 0 inner in

@@ -1,17 +1,14 @@
 -- What a table holds after stores: a place that is written stands, what stands outside a changed part goes on to stand, and a table that lays a
 -- written-out pattern lists its places.
-use Prim.Native.Nat.{ℕ, zero, suc, _+_, _*_, _≤_, _<_}
-use mathlib.Core.Path.{_≡_, refl, sym, ap, subst, _∙_}
-use mathlib.Core.List.{List, [], _∷_, _++_}
-use native.Mathlib.Nat.{add-zero, le-trans}
-use native.Mathlib.Numerals.{add-one}
+use Prim.Native.Nat.{ℕ, _+_, _*_, _≤_, _<_}
+use mathlib.Core.Path.{_≡_, refl, sym, ap, _∙_}
+use mathlib.Core.List.{List}
 use native.Mathlib.Omega.{arith}
 use lib.ListN.{length, getD, set, length-set}
 use lib.Seq.{getD-set-same, getD-set-other}
-use Rattle.paper.specs.Pattern.{Mode}
-use Rattle.paper.specs.Machine.{Core, dead, skip, eats, captures, chain, either, must, maybe, star, Place, size, lay, entry, passFork}
-use Rattle.paper.specs.Tables.{placeAt, placeOf, decode}
-use Rattle.places.specs.Laid.{kindOf, nextOf, aOf, nOf, Readable, Holds, Kept, Lays}
+use Rattle.paper.specs.Machine.{Core, dead, skip, eats, captures, chain, either, must, maybe, star, Place, size}
+use Rattle.paper.specs.Tables.{placeOf}
+use Rattle.places.specs.Laid.{Holds, Kept, Lays}
 use Rattle.places.specs.Asked.{Put}
 
 -- a store leaves what stands at another index

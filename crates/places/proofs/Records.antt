@@ -8,24 +8,21 @@ use native.Mathlib.Omega.{arith}
 use borrow.Author.Tests.{eq-eqb, ne-eqb}
 use lib.Dec.{eqb}
 use lib.ListN.{length}
-use Rattle.paper.specs.Pattern.{Mode, greedy, lazy, Upper, upTo, noEnd, Range, Pattern, places, groups, repeatPlaces}
-use Rattle.paper.specs.Pattern.Pattern.{nothing, bytes, group, repeat}
-use Rattle.paper.specs.Layout.{upperNumber, modeNumber}
-use Rattle.paper.specs.Check.{numberAt, bodyEnd, bodyStart, kindAt, upperOf, modeOf, part, rangesOf, repeatHead}
+use Rattle.paper.specs.Pattern.{Upper, upTo, noEnd, Range, Pattern, places, groups, repeatPlaces}
+use Rattle.paper.specs.Pattern.Pattern.{repeat}
+use Rattle.paper.specs.Layout.{upperNumber}
+use Rattle.paper.specs.Check.{numberAt, bodyEnd, kindAt, upperOf, modeOf, part, rangesOf, repeatHead}
 use Rattle.paper.specs.Machine.{Core, captures, chain, either, size, writtenOut, musts, optionals, opening, closing, fork, set}
-use Rattle.paper.specs.Tables.{placeOf}
+use Rattle.paper.proofs.Sizes.{size-written}
+use Rattle.paper.proofs.RepeatBody.{mode-of-number}
 use Rattle.places.specs.Laid.{Holds, Kept, Lays, entryOf}
-use Rattle.places.specs.Standing.{Stands, Row, Pairs, Passes, UpperRight, placesIn, groupsIn, rowPlaces, rowCore}
-use Rattle.places.specs.Asked.{Put, Counting, Counted, Inside, One, OneLaid, HeadLaid, Several, SeveralLaid, Repeating, PassesLaid, Repeat, RepeatLaid, optionalCore, passCore, passPlaces}
+use Rattle.places.specs.Standing.{Stands, Row, UpperRight, placesIn, groupsIn, rowPlaces, rowCore}
+use Rattle.places.specs.Asked.{Put, Counting, Counted, One, OneLaid, HeadLaid, Several, SeveralLaid, Repeating, PassesLaid, Repeat, RepeatLaid}
 use Rattle.places.proofs.Laying.{holds-kept, plain-holds, put-holds, lays-kept, lays-none, kept-none, kept-both}
-use Rattle.places.proofs.Sizes.{size-places, row-size, optional-maybes}
+use Rattle.places.proofs.Sizes.{row-size, optional-maybes}
 use Rattle.places.proofs.Entering.{entry-small}
 use Rattle.places.proofs.Adding.{upper-named, repeat-more, row-long}
-use Rattle.places.proofs.Views.{SetView, GroupView, RepeatView, RowView, nothing-view, set-view, group-view, repeat-view, row-view}
-
-mode-named : (mode : Mode) → modeOf (modeNumber mode) ≡ mode
-mode-named greedy = refl
-mode-named lazy = refl
+use Rattle.places.proofs.Views.{RowView, nothing-view, set-view, group-view, repeat-view, row-view}
 
 -- `repeated`: the record inside is counted
 abbrev pub repeat-counting : {bs : List ℕ} {start stop base next first : ℕ} → Repeat bs start stop base next first → Counting bs (start + repeatHead) stop
@@ -49,7 +46,7 @@ module _ {bs : List ℕ} {start stop base next first least most mode p g k : ℕ
   upper-is = ap upperOf (em ∙ m .numbers .upper-is) ∙ upper-named (m .upper) (m .least) (m .numbers .right)
 
   mode-is : modeOf mode ≡ m .mode
-  mode-is = ap modeOf (ed ∙ m .numbers .mode-is) ∙ mode-named (m .mode)
+  mode-is = ap modeOf (ed ∙ m .numbers .mode-is) ∙ mode-of-number (m .mode)
 
   pub groups-is : g ≡ groups (m .tree)
   groups-is = omega (arith, c .sums (repeat-counting m) .groups-are)
@@ -142,7 +139,7 @@ pub nothing-to-lay : {bs : List ℕ} {at stop base next first n : ℕ} {t : List
 nothing-to-lay {bs} {base = base} {next = next} {first = first} {n = n} {t = t} none =
     record {
       kept = kept-none base (base + n) t;
-      laid = λ m. lays-none (writtenOut (m .tree) first) t bs base next (size-places (m .tree) first ∙ sym (m .places-are) ∙ none);
+      laid = λ m. lays-none (writtenOut (m .tree) first) t bs base next (size-written (m .tree) first ∙ sym (m .places-are) ∙ none);
     }
 
 -- what is laid of a tree is laid of the same tree by another name
@@ -235,7 +232,7 @@ group-laid {bs} {at} {stop} {base} {next} {first} {n} {t2 = t2} m0 ek three h pu
           let o = group-one m ek three in
           let v = group-view (m .tree) bs at (m .inside .stand) (sym ek ∙ three) in
           let e = writtenOut (v .inner) (first + 1) in
-          let ep : n - 2 ≡ size e = o .places-are ∙ sym (size-places (v .inner) (first + 1)) in
+          let ep : n - 2 ≡ size e = o .places-are ∙ sym (size-written (v .inner) (first + 1)) in
           as-tree t2 bs first base next (v .is)
           (subst (λ (k : ℕ). Lays t2 bs (captures first (writtenOut (v .inner) k)) base next) (add-one first)
           (captures-lays t2 bs first e base next (n - 2) ep (holds-kept (put .kept) (omega arith) (h .head))
@@ -460,7 +457,7 @@ module _ {bs : List ℕ} {at stop base next first n end p g k : ℕ} (ee : end �
             let w = more ee es m in
             let a = writtenOut (w .tree) first in
             let b = rowCore false (w .second ∷ w .others) (first + groups (w .tree)) in
-            let ep : p ≡ size a = more-places ee es c m ∙ sym (size-places (w .tree) first) in
+            let ep : p ≡ size a = more-places ee es c m ∙ sym (size-written (w .tree) first) in
             let eb : n - p ≡ size b = chain-rest m .places-are ∙ sym (row-size false (w .second ∷ w .others) (first + groups (w .tree))) in
             subst (λ (l : List Pattern). Lays t2 bs (rowCore false l first) base next) (sym (w .is))
             (chain-lays t2 bs a b base next p v ep (ev ∙ ap (λ (k : ℕ). entryOf k (base + p) next) eb)
@@ -515,7 +512,7 @@ module _ {bs : List ℕ} {at stop base next first n end p g k : ℕ} (ee : end �
             let w = more ee es m in
             let a = writtenOut (w .tree) first in
             let b = rowCore true (w .second ∷ w .others) (first + groups (w .tree)) in
-            let ep : p ≡ size a = more-places ee es c m ∙ sym (size-places (w .tree) first) in
+            let ep : p ≡ size a = more-places ee es c m ∙ sym (size-written (w .tree) first) in
             let eb : n - 1 - p ≡ size b = fork-rest m .places-are ∙ sym (row-size true (w .second ∷ w .others) (first + groups (w .tree))) in
             subst (λ (l : List Pattern). Lays t3 bs (rowCore true l first) base next) (sym (w .is))
             (either-lays t3 bs a b base next p v ep (ev ∙ ap (λ (k : ℕ). entryOf k (base + 1 + p) next) eb)

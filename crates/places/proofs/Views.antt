@@ -1,17 +1,18 @@
 -- Which tree stands where the number of its kind is known.
-use Prim.Native.Nat.{ℕ, _+_, _*_, _≤_, _<_}
+use Prim.Native.Nat.{ℕ, _+_, _≤_}
 use mathlib.Core.Path.{_≡_, refl, sym, subst}
-use mathlib.Core.Bool.{Bool, true, false}
-use mathlib.Core.List.{List, [], _∷_}
+use mathlib.Core.Bool.{Bool}
+use mathlib.Core.List.{List}
 use native.Mathlib.Omega.{arith}
 use lib.Dec.{eqb}
 use lib.ListN.{length}
-use Rattle.paper.specs.Pattern.{Mode, Upper, Range, Pattern, Members, places, groups}
+use Rattle.paper.specs.Pattern.{Mode, Upper, Range, Pattern, places, groups}
 use Rattle.paper.specs.Pattern.Pattern.{nothing, empty, bytes, group, sequence, alternation, repeat}
 use Rattle.paper.specs.Check.{bodyEnd, bodyStart, kindAt, repeatHead}
 use Rattle.paper.specs.Machine.{writtenOut}
+use Rattle.paper.proofs.MemberList.{listOf}
 use Rattle.places.specs.Standing.{Stands, Row, Pairs, Passes, groupsIn, rowPlaces, rowCore}
-use Rattle.places.proofs.Adding.{listOf, members-row, members-places, members-groups, members-count, members-two}
+use Rattle.places.proofs.Adding.{members-row, members-places, members-groups, members-count, members-two}
 use Rattle.places.proofs.Sizes.{row-chained, row-forked}
 
 pub record SetView (bs : List ℕ) (at : ℕ) (e : Pattern) : Type 0 where

@@ -1,8 +1,8 @@
 -- Where the walk accepts a tree, the tree stands there record by record. By recursion on the levels left; inside a sequence or an alternation by
 -- paper's induction over the walk's turns.
-use Prim.Native.Nat.{ℕ, zero, suc, _+_, _-_, _*_, _≤_, _<_}
-use mathlib.Core.Path.{_≡_, refl, sym, ap, subst, _∙_}
-use mathlib.Core.Bool.{Bool, true, false, _&&_}
+use Prim.Native.Nat.{ℕ, zero, suc, _+_, _*_, _≤_, _<_}
+use mathlib.Core.Path.{_≡_, refl, sym, ap, subst}
+use mathlib.Core.Bool.{_&&_}
 use mathlib.Core.List.{List, [], _∷_}
 use native.Mathlib.Omega.{arith}
 use borrow.Author.Tests.{eqb-true, leb-true, ltb-true}
@@ -10,12 +10,12 @@ use lib.Dec.{leb, ltb, eqb}
 use lib.ListN.{length}
 use Rattle.paper.specs.Limits.{patternBytes, patternLevels, patternGroups, patternPlaces, setPairs}
 use Rattle.paper.specs.Refusal.{Checked, refused, accepted, _>>=_, _>>_, holds, patternTooLong, brokenRecord, setWrong, repeatWrong, tooDeep, tooManyGroups, tooManyPlaces}
-use Rattle.paper.specs.Pattern.{Mode, Upper, upTo, noEnd, Pattern, Members, allPlaces, places, groups}
+use Rattle.paper.specs.Pattern.{Upper, upTo, noEnd, Pattern, Members, allPlaces, groups}
 use Rattle.paper.specs.Pattern.Pattern.{nothing, empty, bytes, group, sequence, alternation, repeat}
 use Rattle.paper.specs.Pattern.Members.{two, more}
-use Rattle.paper.specs.Layout.{Kind, nothingKind, emptyKind, bytesKind, groupKind, sequenceKind, alternationKind, repeatKind, kindNumber, upperNumber, modeNumber}
+use Rattle.paper.specs.Layout.{Kind, nothingKind, emptyKind, bytesKind, groupKind, sequenceKind, alternationKind, repeatKind, kindNumber}
 use Rattle.paper.specs.Layout as layout
-use Rattle.paper.specs.Check.{numberAt, bodyLength, kindAt, bodyStart, bodyEnd, part, header, bare, rangesOf, apart, setRight, byteSet, repeatNumbersRight, upperOf, modeOf, repeatHead, Walk, single, walkAll, atLeastTwo, several, body, walkRecord, patternOf}
+use Rattle.paper.specs.Check.{numberAt, bodyLength, kindAt, bodyStart, bodyEnd, part, header, rangesOf, apart, setRight, byteSet, repeatNumbersRight, upperOf, modeOf, repeatHead, Walk, single, walkAll, atLeastTwo, several, body, walkRecord, patternOf}
 use Rattle.paper.proofs.Accepted.{refused-not-accepted, accepted-injective, bind-accepted, holds-accepted, both-true}
 use Rattle.paper.proofs.Standing.{length-part}
 use Rattle.paper.proofs.RepeatBody.{upper-number-of, numbers-right, counts-small}
@@ -23,7 +23,7 @@ use Rattle.paper.proofs.MemberList.{listOf, list-accepted, groups-listed}
 use Rattle.paper.proofs.MemberList as list
 use Rattle.paper.proofs.Turns.{Within, walk-all-induction}
 use Rattle.paper.proofs.Header.{header-accepted, walk-within}
-use Rattle.places.specs.Standing.{Pairs, Passes, UpperRight, Stands, AllStand, Row, groupsIn}
+use Rattle.places.specs.Standing.{UpperRight, Stands, AllStand, Row, groupsIn}
 
 -- a tree that stands at `at`, with so many groups before it
 pub record Stood (bs : List ℕ) (at before : ℕ) (e : Pattern) : Type 0 where

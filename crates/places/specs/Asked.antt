@@ -26,6 +26,14 @@ tableRoom = placeNumbers * mostPlaces
 abbrev pub mostNumber : ℕ
 mostNumber = 65535
 
+-- a count of places is cut here: one more than a pattern may have
+abbrev pub mostCounted : ℕ
+mostCounted = patternPlaces + 1
+
+-- no record has more places than this when those inside it are cut
+abbrev pub mostOwn : ℕ
+mostOwn = 300000
+
 -- `put`: the numbers fit
 pub record Fitting (table : List ℕ) (x next a n : ℕ) : Type 0 where
   pub room : placeNumbers * x + placeNumbers ≤ length table
@@ -49,7 +57,7 @@ pub record Forked (before : List ℕ) (x mode pass out : ℕ) (after : List ℕ)
 -- `capped`: the same number, where a pattern may have so many places
 pub record Capped (n r : ℕ) : Type 0 where
   pub same : n ≤ patternPlaces → r ≡ n
-  pub small : r ≤ patternPlaces + 1
+  pub small : r ≤ mostCounted
 
 -- where the records inside a record start, by the number of its kind
 abbrev pub insideStart : ℕ → ℕ → ℕ → ℕ
@@ -69,7 +77,7 @@ ownPlaces bs kind start p k =
     (cond (eqb kind 5) (p + (k - 1)) (repeatPlaces (numberAt bs start) (upperOf (numberAt bs (start + 2))) p))))
 
 pub record OwnPlaces (bs : List ℕ) (kind start p k : ℕ) : Type 0 where
-  pub places-small : p ≤ patternPlaces + 1
+  pub places-small : p ≤ mostCounted
   pub records-small : k ≤ patternBytes
   pub some : kind ≡ 5 → 1 ≤ k
   pub here : 5 < kind → start + 4 ≤ length bs
@@ -93,7 +101,7 @@ pub record Summed (records : List Pattern) (p g k : ℕ) : Type 0 where
   pub records-are : k ≡ length records
 
 pub record Counted (bs : List ℕ) (at stop p g k : ℕ) : Type 0 where
-  pub small : p ≤ patternPlaces + 1
+  pub small : p ≤ mostCounted
   pub sums : (m : Counting bs at stop) → Summed (m .records) p g k
 
 -- the record of a tree stands from an offset up to `stop`, its first group being number `first`

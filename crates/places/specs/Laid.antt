@@ -6,7 +6,7 @@ use mathlib.Core.List.{List}
 use lib.Dec.{eqb}
 use lib.ListN.{length, getD}
 use Rattle.paper.specs.Limits.{setPairs}
-use Rattle.paper.specs.Machine.{Core, dead, skip, eats, captures, chain, either, must, maybe, star, Place, set, stop, fork, opening, closing, begin, beginOptional, ending, accept, size, entry, passFork}
+use Rattle.paper.specs.Machine.{Core, dead, skip, eats, captures, chain, either, must, maybe, star, Place, set, stop, fork, opening, closing, begin, beginOptional, ending, size, entry, passFork}
 use Rattle.paper.specs.Tables.{placeNumbers, placeAt, setPlace, acceptPlace}
 
 -- the numbers of a place: its kind, its follower and two more

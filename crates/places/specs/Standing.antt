@@ -1,16 +1,15 @@
 -- Which tree stands where among a pattern's bytes. Paper's walk finds the tree; these say the same of the tree that was found, record by record.
 use Prim.Native.Nat.{ℕ, _+_, _-_, _*_, _≤_}
 use mathlib.Core.Path.{_≡_}
-use mathlib.Core.Bool.{Bool, true, false, cond}
+use mathlib.Core.Bool.{Bool, true, false}
 use mathlib.Core.List.{List, [], _∷_}
-use lib.Dec.{ltb, eqb}
 use lib.ListN.{length}
 use Rattle.paper.specs.Limits.{setPairs, repeatCount}
 use Rattle.paper.specs.Pattern.{Mode, Upper, upTo, noEnd, Range, Pattern, Members, places, groups}
 use Rattle.paper.specs.Pattern.Pattern.{nothing, empty, bytes, group, sequence, alternation, repeat}
 use Rattle.paper.specs.Pattern.Members.{two, more}
 use Rattle.paper.specs.Layout.{upperNumber, modeNumber}
-use Rattle.paper.specs.Check.{numberAt, bodyLength, kindAt, bodyStart, bodyEnd, part, rangesOf, repeatHead, upperOf, modeOf}
+use Rattle.paper.specs.Check.{numberAt, bodyLength, kindAt, bodyStart, bodyEnd, part, rangesOf, repeatHead}
 use Rattle.paper.specs.Machine.{Core, skip, chain, either, writtenOut}
 
 -- a byte set's body is these ranges

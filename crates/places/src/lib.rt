@@ -1,15 +1,16 @@
 // Building: the places of an accepted pattern into a lent table, four numbers a place (01, "The list machine", paragraph 1).
+use pattern::Kind;
+use pattern::Pattern;
 use records::number_at;
 ghost use mathlib.Core.Path.{_≡_};
 ghost use mathlib.Core.Bool.{cond};
 ghost use Prim.Native.Nat.{_+_, _-_, _*_, _≤_, _<_};
-ghost use lib.Dec.{eqb};
 ghost use lib.ListN.{length};
-ghost use Rattle.paper.specs.Refusal.{accepted};
+ghost use Rattle.paper.specs.Limits.{patternBytes, rowCount};
 ghost use Rattle.paper.specs.Pattern.{repeatPlaces};
-ghost use Rattle.paper.specs.Check.{patternOf, upperOf};
-ghost use Rattle.places.specs.Laid.{Kept, entryOf};
-ghost use Rattle.places.specs.Asked.{Fitting, Put, Forked, Capped, insideStart, CountsRight, ownPlaces, OwnPlaces, ownGroups, Counting, Counted, One, OneLaid, Head, HeadLaid, Several, SeveralLaid, Repeating, PassesLaid, Repeat, RepeatLaid, Star, StarLaid, tableRoom};
+ghost use Rattle.paper.specs.Check.{upperOf};
+ghost use Rattle.places.specs.Laid.{entryOf};
+ghost use Rattle.places.specs.Asked.{Fitting, Put, Forked, Capped, insideStart, CountsRight, ownPlaces, OwnPlaces, ownGroups, Counting, Counted, One, OneLaid, Head, HeadLaid, Several, SeveralLaid, Repeating, PassesLaid, Repeat, RepeatLaid, Star, StarLaid, tableRoom, mostCounted, mostOwn};
 ghost use Rattle.places.specs.Built.{Accepted, BuiltMatch, BuiltSearch};
 
 // The numbers of the kinds of place.
@@ -33,28 +34,8 @@ const STOP: u16 = 8;
 
 const ACCEPT: u16 = 9;
 
-// The numbers of the kinds of record, and of a repeat that has no upper end.
-const NOTHING: usize = 0;
-
-const EMPTY: usize = 1;
-
-const BYTES: usize = 2;
-
-const GROUP: usize = 3;
-
-const SEQUENCE: usize = 4;
-
-const ALTERNATION: usize = 5;
-
-const REPEAT: usize = 6;
-
-const NO_END: usize = 65535;
-
-// The most places of an accepted pattern, and the number that tells of more.
-const MOST_PLACES: usize = 500;
-
 // Writes a place's four numbers.
-pub fn put(table: &mut [u16], x: usize, kind: u16, next: usize, a: usize, n: usize)
+fn put(table: &mut [u16], x: usize, kind: u16, next: usize, a: usize, n: usize)
     requires { ⌜ Fitting (now table) x next a n ⌝ }
     ensures { λ _. ⌜ Put (now (table .entry)) x kind next a n (now (table .exit)) ⌝ }
 {
@@ -66,14 +47,14 @@ pub fn put(table: &mut [u16], x: usize, kind: u16, next: usize, a: usize, n: usi
 }
 
 // Where an expression of so many places is entered: at its first, or at what follows it where it has none.
-pub fn entered(places: usize, base: usize, next: usize) -> usize
+fn entered(places: usize, base: usize, next: usize) -> usize
     ensures { λ r. ⌜ r ≡ entryOf places base next ⌝ }
 {
     if places == 0 { next } else { base }
 }
 
 // What records that stand one after another add up to. More places than a pattern may have are told as one more.
-pub struct Sums {
+struct Sums {
     pub places: usize,
     pub groups: usize,
     pub records: usize,
@@ -83,21 +64,21 @@ pub struct Sums {
 fn capped(places: usize) -> usize
     ensures { λ r. ⌜ Capped places r ⌝ }
 {
-    if places <= MOST_PLACES {
+    if places <= Pattern::PLACES {
         places
     } else {
-        MOST_PLACES + 1
+        Pattern::PLACES + 1
     }
 }
 
 // Where the records inside a record start: at its end where its kind has none inside.
 fn inside_start(kind: usize, start: usize, end: usize) -> usize
-    requires { ⌜ start ≤ 8192 ⌝ }
+    requires { ⌜ start ≤ 2 * patternBytes ⌝ }
     ensures { λ r. ⌜ r ≡ insideStart kind start end ⌝ }
 {
-    if kind < GROUP {
+    if kind < Kind::GROUP {
         end
-    } else if kind < REPEAT {
+    } else if kind < Kind::REPEAT {
         start
     } else {
         start + 6
@@ -107,10 +88,10 @@ fn inside_start(kind: usize, start: usize, end: usize) -> usize
 // The places of a repeat by the places of what it repeats.
 fn repeat_places(least: usize, most: usize, places: usize) -> usize
     requires { ⌜ CountsRight least most ⌝ }
-    requires { ⌜ places ≤ 501 ⌝ }
-    ensures { λ r. ⌜ (r ≡ repeatPlaces least (upperOf most) places) × (r ≤ 300000) ⌝ }
+    requires { ⌜ places ≤ mostCounted ⌝ }
+    ensures { λ r. ⌜ (r ≡ repeatPlaces least (upperOf most) places) × (r ≤ mostOwn) ⌝ }
 {
-    if most == NO_END {
+    if most == Pattern::NO_UPPER_END {
         least * (1 + places) + (3 + places)
     } else {
         least * (1 + places) + (most - least) * (3 + places)
@@ -120,18 +101,18 @@ fn repeat_places(least: usize, most: usize, places: usize) -> usize
 // The places of a record by its kind and what the records inside it add up to.
 fn own_places(pattern: &[u8], kind: usize, start: usize, places: usize, records: usize) -> usize
     requires { ⌜ OwnPlaces (now pattern) kind start places records ⌝ }
-    ensures { λ r. ⌜ (r ≡ ownPlaces (now (pattern .entry)) kind start places records) × (r ≤ 300000) ⌝ }
+    ensures { λ r. ⌜ (r ≡ ownPlaces (now (pattern .entry)) kind start places records) × (r ≤ mostOwn) ⌝ }
 {
-    if kind < GROUP {
-        return if kind == EMPTY { 0 } else { 1 };
+    if kind < Kind::GROUP {
+        return if kind == Kind::EMPTY { 0 } else { 1 };
     }
-    if kind == GROUP {
+    if kind == Kind::GROUP {
         return places + 2;
     }
-    if kind == SEQUENCE {
+    if kind == Kind::SEQUENCE {
         return places;
     }
-    if kind == ALTERNATION {
+    if kind == Kind::ALTERNATION {
         return places + (records - 1);
     }
     repeat_places(
@@ -143,14 +124,18 @@ fn own_places(pattern: &[u8], kind: usize, start: usize, places: usize, records:
 
 // The groups of a record by its kind and those inside it.
 fn own_groups(kind: usize, groups: usize) -> usize
-    requires { ⌜ groups ≤ 10 ⌝ }
-    ensures { λ r. ⌜ (r ≡ ownGroups kind groups) × (r ≤ 11) ⌝ }
+    requires { ⌜ groups ≤ rowCount ⌝ }
+    ensures { λ r. ⌜ (r ≡ ownGroups kind groups) × (r ≤ rowCount + 1) ⌝ }
 {
-    if kind == GROUP { groups + 1 } else { groups }
+    if kind == Kind::GROUP {
+        groups + 1
+    } else {
+        groups
+    }
 }
 
 // What the records from an offset up to the end of their holder add up to.
-pub fn count(pattern: &[u8], at: usize, stop: usize) -> Sums
+fn count(pattern: &[u8], at: usize, stop: usize) -> Sums
     requires { ⌜ Counting (now pattern) at stop ⌝ }
     ensures { λ r. ⌜ Counted (now (pattern .entry)) at stop (r .places) (r .groups) (r .records) ⌝ }
 {
@@ -180,7 +165,7 @@ fn pass_fork(table: &mut [u16], x: usize, mode: usize, pass: usize, out: usize)
     requires { ⌜ (Fitting (now table) x pass out 0) ⌝ }
     ensures { λ _. ⌜ Forked (now (table .entry)) x mode pass out (now (table .exit)) ⌝ }
 {
-    if mode == 0 {
+    if mode == Pattern::GREEDY {
         put(table, x, FORK, pass, out, 0);
     } else {
         put(table, x, FORK, out, pass, 0);
@@ -345,7 +330,7 @@ fn repeated(
     let most = number_at(pattern, start + 2);
     let mode = number_at(pattern, start + 4);
     let inside = count(pattern, at, stop);
-    if most == NO_END {
+    if most == Pattern::NO_UPPER_END {
         passes(
             pattern,
             table,
@@ -397,11 +382,11 @@ fn one(
 {
     let kind = number_at(pattern, at + 2);
     let start = at + 4;
-    if places == 0 {} else if kind == NOTHING {
+    if places == 0 {} else if kind == Kind::NOTHING {
         put(table, base, STOP, 0, 0, 0);
-    } else if kind == BYTES {
+    } else if kind == Kind::BYTES {
         put(table, base, SET, next, start, (stop - start) / 2);
-    } else if kind == GROUP {
+    } else if kind == Kind::GROUP {
         let close = base + 1 + (places - 2);
         headed(
             pattern,
@@ -417,7 +402,7 @@ fn one(
             places - 2,
         );
         put(table, close, CLOSE, next, first, 0);
-    } else if kind == REPEAT {
+    } else if kind == Kind::REPEAT {
         repeated(pattern, table, start, stop, base, next, first);
     } else {
         row(
@@ -425,7 +410,7 @@ fn one(
             table,
             start,
             stop,
-            kind == ALTERNATION,
+            kind == Kind::ALTERNATION,
             base,
             next,
             first,
@@ -544,10 +529,10 @@ pub fn build_search(pattern: &[u8], table: &mut [u16]) -> usize
     let places = all.places;
     let close = 5 + places;
     let second = close + 1;
-    any_star(table, 0, 1, 4, 0);
+    any_star(table, 0, Pattern::LAZY, 4, 0);
     headed(pattern, table, 0, stop, OPEN, 0, 0, 4, close, 1, places);
     put(table, close, CLOSE, second, 0, 0);
-    any_star(table, second, 0, second + 4, all.groups + 1);
+    any_star(table, second, Pattern::GREEDY, second + 4, all.groups + 1);
     put(table, second + 4, ACCEPT, 0, 0, 0);
     second + 5
 }

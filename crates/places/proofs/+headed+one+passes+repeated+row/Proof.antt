@@ -2,9 +2,8 @@
 -- The bytes between the two offsets fall, and passes over the same bytes fall in number.
 use borrow.Author.Needs.{needs}
 use Prim.Native.Nat.{ℕ, _+_, _-_, _*_, _<_}
-use mathlib.Core.Path.{_≡_, ap, _∙_}
+use mathlib.Core.Path.{ap, _∙_}
 use native.Mathlib.Omega.{arith}
-use Rattle.places.proofs.Adding.{row-long}
 use Rattle.places.proofs.Entering.{entry-small, end-small, places-must, places-may, passes-count, at-least-one}
 use Rattle.places.proofs.Building.{single, head-fits, head-row, head-alone, pass-head, must-one, must-rest, must-laid, may-one, may-rest, may-laid, none-laid}
 use Rattle.places.proofs.Records.{repeat-counting, endless-ask, bounded-counts, bounded-ask, endless-laid, bounded-laid, nothing-to-lay, stop-laid, set-laid, group-one, group-two, group-laid, repeat-ask, repeat-laid, row-ask, row-laid, row-header, last-one, last-laid, more-counting, more-few, fork-sum, fork-one, fork-rest, fork-laid, chain-sum, chain-one, chain-rest, chain-laid}
