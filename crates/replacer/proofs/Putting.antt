@@ -24,7 +24,7 @@ use Rattle.replacer.proofs.Written.{nothing-written, written-on}
 -- ---- a row's bytes
 
 -- a number inside a list is the same whatever stands for one outside
-inside-same : (l : List ℕ) (i d e : ℕ) → i < length l → getD l i d ≡ getD l i e
+pub inside-same : (l : List ℕ) (i d e : ℕ) → i < length l → getD l i d ≡ getD l i e
 inside-same [] i d e low = absurd (omega arith)
 inside-same (x ∷ l) zero d e low = refl
 inside-same (x ∷ l) (suc i) d e low = inside-same l i d e (omega arith)

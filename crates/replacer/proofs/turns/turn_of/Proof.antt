@@ -1,0 +1,35 @@
+-- `replacer::turns::turn_of` meets its contract: by whether there is a match.
+use mathlib.Core.Path.{_≡_, refl, sym, subst}
+use Rattle.replacer.proofs.Turning.{turn-none}
+use Rattle.replacer.specs.Turn.{lastOf, foundOf, Finds, asTurn}
+use Rattle.paper.proofs.ScanWays.{turnOf}
+use mathlib.Core.Bool.{Bool}
+use Rattle.replacer.proofs.turns.turn_of.Statement.{statement}
+use Rattle.replacer.proofs.turns.turn_of.Tie as tie
+use Rattle.replacer.proofs.turns.turn_of.Reads as reads
+use Rattle.replacer.proofs.turns.turn_of.Lts as lts
+use Rattle.replacer.proofs.turns.match_turn.Reads as match-turn-reads
+
+match-turn-requires : tie.Need-match-turn-requires
+match-turn-requires c κs =
+    let the-args = c .before .args in
+    let the-if1 = c .if1 in
+    let the-pre = c .before .pre in
+    subst (λ (b : Bool). Finds (the-args .size) b (the-args .rows)) (the-if1 .taken) (the-pre)
+
+returns : tie.Need-returns
+returns c =
+    let the-match-turn = c .match-turn in
+    let the-args = c .before .before .args in
+    let the-if1 = c .before .if1 in
+    subst (λ (b : Bool). (asTurn (the-match-turn .result) ≡ turnOf (the-args .size) (lastOf (the-args .last)) (foundOf b (the-args .rows))) × (the-match-turn .result .steps ≡ the-args .steps)) (sym (the-if1 .taken)) (the-match-turn .ensures)
+
+returns-2 : tie.Need-returns-2
+returns-2 c =
+    let the-args = c .before .args in
+    let the-pre = c .before .pre in
+    let the-if1 = c .if1 in
+    (turn-none (the-args .size) (the-args .last) (the-args .matched) (the-args .rows) (the-pre) (the-if1 .left), refl)
+
+pub turn-of-spec : {M : Type 1} → statement M
+turn-of-spec = tie.close (tie.spec match-turn-requires returns returns-2)
