@@ -128,11 +128,12 @@ module _ (p : ℕ) (line : List ℕ) (inside : p ≤ length line) where
       (visits turns code (drop p line) q ts (fresh steps) .carried)
       (visits turns code (drop p line) q ts (fresh steps) .steps)
 
-steps-moved : (p : ℕ) (stopped : Stopped) → stepsOf (movedStopped p stopped) ≡ stepsOf stopped
+-- moving the rows leaves the steps, and moves what is found
+pub steps-moved : (p : ℕ) (stopped : Stopped) → stepsOf (movedStopped p stopped) ≡ stepsOf stopped
 steps-moved p (matched steps rows) = refl
 steps-moved p (unmatched steps) = refl
 
-rows-moved : (p : ℕ) (stopped : Stopped) → rowsOf (movedStopped p stopped) ≡ Option·map (moved p) (rowsOf stopped)
+pub rows-moved : (p : ℕ) (stopped : Stopped) → rowsOf (movedStopped p stopped) ≡ Option·map (moved p) (rowsOf stopped)
 rows-moved p (matched steps rows) = refl
 rows-moved p (unmatched steps) = refl
 

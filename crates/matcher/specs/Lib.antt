@@ -1,0 +1,4 @@
+-- What the contracts of this crate cite beside `paper`.
+pub mod Answer
+pub mod Promise
+pub mod Machine

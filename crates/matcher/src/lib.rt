@@ -1,0 +1,343 @@
+// Whole match and search (01, "The ordered reading"), over a machine that is built once and can be run on many lines.
+use pattern::Line;
+use pattern::Pattern;
+use pattern::Refusal;
+use pattern::Spans;
+use run::Ran;
+ghost use mathlib.Core.Path.{_≡_};
+ghost use mathlib.Core.Bool.{Bool, true, false};
+ghost use mathlib.Core.List.{_++_};
+ghost use Prim.Native.Nat.{_≤_, max};
+ghost use lib.ListN.{length, drop};
+ghost use Rattle.paper.specs.Limits.{tableNumbers, lineBytes};
+ghost use Rattle.places.specs.Asked.{tableRoom};
+ghost use Rattle.matcher.specs.Answer.{TellsSteps};
+ghost use Rattle.matcher.specs.Promise.{Matches, Searches, Answers};
+ghost use Rattle.matcher.specs.Machine.{Builds, Ready, Runnable, RunsFrom, MatchGives, SearchGives, FoundGives};
+
+// The sizes of a machine's tables, for the largest pattern with a search's wrap around it.
+pub struct Machine {}
+
+impl Machine {
+    // the wrap has ten places
+    pub const PLACES: usize = Pattern::PLACES + 10;
+    // four numbers a place
+    pub const CODE: usize = 4 * Machine::PLACES;
+    // a pair of a place and a level: the depth is below the levels of the records
+    pub const PAIRS: usize = Machine::PLACES * Pattern::LEVELS;
+    // a place and its rows for each thread, and one more for the winner
+    pub const LIST: usize = (1 + Spans::NUMBERS) * (Machine::PLACES + 1);
+    // the most steps that can be told
+    pub const STEPS: usize = 4294967295;
+}
+
+// What a whole match or a search answers. The rows stand in the lent table.
+pub enum Answer {
+    Refused { number: usize, place: usize },
+    Match { steps: u32 },
+    NoMatch { steps: u32 },
+}
+
+// What building answers: a refusal of the pattern, or the machine's places and depth and the pattern's groups.
+pub enum Built {
+    Refused {
+        number: usize,
+        place: usize,
+    },
+    Machine {
+        places: usize,
+        depth: usize,
+        groups: usize,
+    },
+}
+
+// A depth as a search has it.
+fn search_depth(depth: usize) -> usize
+    ensures { λ r. ⌜ r ≡ max 1 depth ⌝ }
+{
+    if depth == 0 { 1 } else { depth }
+}
+
+// Checks a pattern, and builds its machine for a whole match or for a search into a lent table.
+pub fn build(pattern: &[u8], searches: bool, code: &mut [u16]) -> Built
+    requires { ⌜ tableRoom ≤ length (now code) ⌝ }
+    ensures { λ r. ⌜ Builds (now (pattern .entry)) searches (now (code .entry)) (now (code .exit)) r ⌝ }
+{
+    match pattern::check(pattern) {
+        pattern::Answer::Refused { number, place } => Built::Refused { number, place },
+        pattern::Answer::Accepted {
+            places: _,
+            depth,
+            groups,
+        } => {
+            if searches {
+                let places = places::build_search(pattern, code);
+                Built::Machine {
+                    places,
+                    depth: search_depth(depth),
+                    groups,
+                }
+            } else {
+                let places = places::build_match(pattern, code);
+                Built::Machine {
+                    places,
+                    depth,
+                    groups,
+                }
+            }
+        }
+    }
+}
+
+// The machine of a built pattern on a line from a position on.
+pub fn run_built(
+    pattern: &[u8],
+    code: &[u16],
+    places: usize,
+    depth: usize,
+    line: &[u8],
+    from: usize,
+    seen: &mut [u16],
+    taken: &mut [u16],
+    one: &mut [u16],
+    other: &mut [u16],
+) -> Ran
+    requires { ⌜ ((searches : Bool) × Runnable (now pattern) (now code) (now line) searches places depth from (now seen) (now taken) (now one) (now other)) ⌝ }
+    ensures { λ r. ⌜ RunsFrom (now (pattern .entry)) (now (code .entry)) (now (line .entry)) places depth from (r .matched) (r .steps) (r .rows) ⌝ }
+{
+    let cells = places * (depth + 1);
+    run::run(
+        code,
+        pattern,
+        line,
+        &mut seen[0..cells],
+        &mut taken[0..places],
+        one,
+        other,
+        places,
+        from as u16,
+    )
+}
+
+// A whole match by a machine built for it: its rows and steps by value. Row 0 is the whole line.
+pub fn match_rows(
+    pattern: &[u8],
+    code: &[u16],
+    places: usize,
+    depth: usize,
+    line: &[u8],
+    seen: &mut [u16],
+    taken: &mut [u16],
+    one: &mut [u16],
+    other: &mut [u16],
+) -> Ran
+    requires { ⌜ Runnable (now pattern) (now code) (now line) false places depth 0 (now seen) (now taken) (now one) (now other) ⌝ }
+    ensures { λ r. ⌜ MatchGives (now (pattern .entry)) (now (line .entry)) (r .matched) (r .steps) (r .rows) ⌝ }
+{
+    let ran = run_built(
+        pattern,
+        code,
+        places,
+        depth,
+        line,
+        0,
+        seen,
+        taken,
+        one,
+        other,
+    );
+    let mut rows = ran.rows;
+    if ran.matched {
+        rows[0] = 0;
+        rows[1] = line.len() as u16;
+        Ran {
+            matched: true,
+            steps: ran.steps,
+            rows,
+        }
+    } else {
+        Ran {
+            matched: false,
+            steps: ran.steps,
+            rows: Spans::absent_table(),
+        }
+    }
+}
+
+// A search from a position on by a machine built for it: its rows, as places in the whole line, and its steps by value.
+pub fn search_rows(
+    pattern: &[u8],
+    code: &[u16],
+    places: usize,
+    depth: usize,
+    line: &[u8],
+    from: usize,
+    seen: &mut [u16],
+    taken: &mut [u16],
+    one: &mut [u16],
+    other: &mut [u16],
+) -> Ran
+    requires { ⌜ Runnable (now pattern) (now code) (now line) true places depth from (now seen) (now taken) (now one) (now other) ⌝ }
+    ensures { λ r. ⌜ SearchGives (now (pattern .entry)) (now (line .entry)) from (r .matched) (r .steps) (r .rows) ⌝ }
+{
+    let ran = run_built(
+        pattern,
+        code,
+        places,
+        depth,
+        line,
+        from,
+        seen,
+        taken,
+        one,
+        other,
+    );
+    let rows = ran.rows;
+    if ran.matched {
+        Ran {
+            matched: true,
+            steps: ran.steps,
+            rows,
+        }
+    } else {
+        Ran {
+            matched: false,
+            steps: ran.steps,
+            rows: Spans::absent_table(),
+        }
+    }
+}
+
+// A whole match, or a search from the line's start, by a machine built for it, in scratch of its own.
+fn find(
+    pattern: &[u8],
+    code: &[u16],
+    searches: bool,
+    places: usize,
+    depth: usize,
+    line: &[u8],
+) -> Ran
+    requires { ⌜ Ready (now pattern) (now code) searches places depth × (length (now line) ≤ lineBytes) ⌝ }
+    ensures { λ r. ⌜ FoundGives searches (now (pattern .entry)) (now (line .entry)) (r .matched) (r .steps) (r .rows) ⌝ }
+{
+    let mut seen = [0u16; Machine::PAIRS];
+    let mut taken = [0u16; Machine::PLACES];
+    let mut one = [0u16; Machine::LIST];
+    let mut other = [0u16; Machine::LIST];
+    if searches {
+        search_rows(
+            pattern,
+            code,
+            places,
+            depth,
+            line,
+            0,
+            &mut seen,
+            &mut taken,
+            &mut one,
+            &mut other,
+        )
+    } else {
+        match_rows(
+            pattern,
+            code,
+            places,
+            depth,
+            line,
+            &mut seen,
+            &mut taken,
+            &mut one,
+            &mut other,
+        )
+    }
+}
+
+// Writes rows to the front of a table.
+pub fn fill(table: &mut [u16], rows: [u16; 20])
+    requires { ⌜ tableNumbers ≤ length (now table) ⌝ }
+    ensures { λ _. ⌜ now (table .exit) ≡ rows ++ drop tableNumbers (now (table .entry)) ⌝ }
+{
+    let mut j = 0;
+    while j < Spans::NUMBERS {
+        table[j] = rows[j];
+        j = j + 1;
+    }
+}
+
+// The answer that tells the steps, refused by 14 where they are too many to tell. Of an accepted pattern and a line within the limits they never are.
+fn told(matched: bool, steps: u32) -> Answer
+    ensures { λ r. ⌜ TellsSteps matched steps r ⌝ }
+{
+    let count = steps as usize;
+    if Machine::STEPS < count {
+        return Answer::Refused {
+            number: Refusal::TOO_MANY_STEPS,
+            place: 0,
+        };
+    }
+    if matched {
+        Answer::Match { steps }
+    } else {
+        Answer::NoMatch { steps }
+    }
+}
+
+// Refusals 11 and 12, else the machine's answer, its rows in the table.
+fn finish(
+    pattern: &[u8],
+    code: &[u16],
+    searches: bool,
+    places: usize,
+    depth: usize,
+    line: &[u8],
+    table: &mut [u16],
+) -> Answer
+    requires { ⌜ Ready (now pattern) (now code) searches places depth ⌝ }
+    ensures { λ r. ⌜ Answers searches (now (pattern .entry)) (now (line .entry)) (now (table .entry)) r (now (table .exit)) ⌝ }
+{
+    if Line::BYTES < line.len() {
+        return Answer::Refused {
+            number: Refusal::LINE_TOO_LONG,
+            place: 0,
+        };
+    }
+    if table.len() < Spans::NUMBERS {
+        return Answer::Refused {
+            number: Refusal::TABLE_TOO_SHORT,
+            place: 0,
+        };
+    }
+    let ran = find(pattern, code, searches, places, depth, line);
+    let rows = ran.rows;
+    fill(table, rows);
+    told(ran.matched, ran.steps)
+}
+
+// A whole match or a search: refusals 1 to 8, then the rest.
+fn call(pattern: &[u8], searches: bool, line: &[u8], table: &mut [u16]) -> Answer
+    ensures { λ r. ⌜ Answers searches (now (pattern .entry)) (now (line .entry)) (now (table .entry)) r (now (table .exit)) ⌝ }
+{
+    let mut code = [0u16; Machine::CODE];
+    match build(pattern, searches, &mut code) {
+        Built::Refused { number, place } => Answer::Refused { number, place },
+        Built::Machine {
+            places,
+            depth,
+            groups: _,
+        } => finish(pattern, &code, searches, places, depth, line, table),
+    }
+}
+
+// Whole match: the first outcome of the ordered reading that ends at the line's end. Its rows go to the table, and the answer tells the steps.
+pub fn whole_match(pattern: &[u8], line: &[u8], table: &mut [u16]) -> Answer
+    ensures { λ r. ⌜ Matches (now (pattern .entry)) (now (line .entry)) (now (table .entry)) r (now (table .exit)) ⌝ }
+{
+    call(pattern, false, line, table)
+}
+
+// Search: the first place in the line where the pattern matches, by the whole match of the pattern with the wrap around it.
+pub fn search(pattern: &[u8], line: &[u8], table: &mut [u16]) -> Answer
+    ensures { λ r. ⌜ Searches (now (pattern .entry)) (now (line .entry)) (now (table .entry)) r (now (table .exit)) ⌝ }
+{
+    call(pattern, true, line, table)
+}
