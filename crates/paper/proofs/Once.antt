@@ -1,13 +1,13 @@
 -- A second thread at a place and level that a position has visited before leads to nothing there, so a list of threads can keep each pair once:
 -- the first visit leaves the pair seen, or something has won, and neither is ever undone.
-use Prim.Native.Nat.{ℕ, zero, suc, _+_}
+use Prim.Native.Nat.{ℕ, zero, suc}
 use mathlib.Core.Path.{_≡_, refl, sym, ap, _∙_}
 use mathlib.Core.Bool.{Bool, true, false, cond, _&&_, _||_}
 use mathlib.Core.List.{List, [], _∷_, _++_}
-use mathlib.Core.Option.{Option, none, some}
+use mathlib.Core.Option.{none}
 use lib.Dec.{eqb}
 use borrow.Author.Tests.{eqb-true, eq-eqb}
-use Rattle.paper.specs.Machine.{Place, Thread, at, Pair, State, Move, die, win, eat, split, goOn, isSeen, isWon, blocked, mark, follow, arrive, visit, visits, Stopped, settle, run, moveAt, stop}
+use Rattle.paper.specs.Machine.{Place, Thread, at, Pair, State, Move, die, win, eat, split, goOn, isSeen, isWon, blocked, mark, follow, arrive, visit, visits, settle, run, moveAt, stop}
 
 -- the pair of a thread
 abbrev pub pairOf : Thread → Pair

@@ -1,21 +1,21 @@
 -- The positions one after the other: what holds between two of them. What is left of the definition's run, from the threads that are carried, is the whole run's answer.
-use Prim.Native.Nat.{ℕ, zero, suc, _+_, _-_, _*_, _≤_, _<_, _^_}
-use mathlib.Core.Path.{_≡_, refl, sym, ap, ap₂, _∙_, subst, subst₂}
-use mathlib.Core.Bool.{Bool, true, false, cond, not, _&&_, _||_}
-use mathlib.Core.List.{List, [], _∷_, _++_}
+use Prim.Native.Nat.{ℕ, zero, suc, _+_, _-_, _*_, _≤_, _<_}
+use mathlib.Core.Path.{_≡_, refl, sym, ap, ap₂, _∙_, subst}
+use mathlib.Core.Bool.{Bool, true, false, cond, not, _&&_}
+use mathlib.Core.List.{List, [], _∷_}
 use mathlib.Core.Option.{Option, none, some}
 use native.Mathlib.Omega.{arith}
 use native.Mathlib.Numerals.{add-one}
-use borrow.Author.Tests.{lt-ltb, le-ltb, ltb-true, ltb-false}
+use borrow.Author.Tests.{lt-ltb, ltb-true, ltb-false}
 use lib.Dec.{ltb}
-use lib.ListN.{length, getD, replicate, length-replicate, length-append}
+use lib.ListN.{length, replicate, length-replicate, length-append}
 use Rattle.paper.specs.Rows.{Rows, noRows}
-use Rattle.paper.specs.Machine.{Place, Thread, at, State, fresh, visits, settle, run, Stopped}
+use Rattle.paper.specs.Machine.{Place, Thread, at, fresh, visits, settle, run, Stopped}
 use Rattle.paper.specs.Tables.{decode}
 use Rattle.paper.proofs.Once.{once, run-once}
 use Rattle.visit.specs.Threads.{placeIn, rowsIn, threadIn, threads, stored}
 use Rattle.visit.specs.Wired.{Wired}
-use Rattle.visit.specs.Shows.{Shows, Carried, Under}
+use Rattle.visit.specs.Shows.{Under}
 use Rattle.visit.proofs.Stores.{stored-long, stored-place, stored-rows}
 use Rattle.visit.proofs.Loop.{rewire}
 use Rattle.run.specs.Steps.{Stepping, Steps, Running, stoppedAs}

@@ -1,9 +1,9 @@
 -- The threads of a list visited in order: what holds between two of them. After a winner the others are not visited, and the definition's visits of them change nothing.
 use Prim.Native.Nat.{ℕ, zero, suc, _+_, _-_, _*_, _≤_, _<_, _^_}
-use mathlib.Core.Path.{_≡_, refl, sym, ap, ap₂, _∙_, subst, subst₂}
+use mathlib.Core.Path.{_≡_, refl, sym, ap, ap₂, _∙_, subst}
 use mathlib.Core.Bool.{Bool, true, false, cond, not, _&&_, _||_}
 use mathlib.Core.List.{List, [], _∷_, _++_}
-use mathlib.Core.Option.{Option, none, some}
+use mathlib.Core.Option.{none, some}
 use native.Mathlib.Omega.{arith}
 use native.Mathlib.Decide.{ℕ-discrete}
 use native.Mathlib.Numerals.{add-one}
@@ -11,7 +11,7 @@ use borrow.Author.Tests.{not-true, ne-eqb, lt-ltb, ltb-true, ltb-false}
 use lib.Dec.{eqb, ltb}
 use lib.ListN.{length, getD}
 use Rattle.paper.specs.Rows.{Rows}
-use Rattle.paper.specs.Machine.{Place, Thread, at, State, fresh, isWon, isSeen, blocked, visit, visits}
+use Rattle.paper.specs.Machine.{Place, Thread, at, State, fresh, isWon, isSeen, visit, visits}
 use Rattle.paper.specs.Tables.{decode}
 use Rattle.paper.proofs.Once.{visit-blocked}
 use Rattle.visit.specs.Threads.{placeIn, rowsIn, threadIn, threads, left}

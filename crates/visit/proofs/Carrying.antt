@@ -1,20 +1,20 @@
 -- The tables show the state after a thread was carried or has won. A follower that has a mark is carried already, and the list keeps the first.
-use Prim.Native.Nat.{ℕ, zero, suc, _+_, _-_, _*_, _≤_, _<_}
+use Prim.Native.Nat.{ℕ, _+_, _*_, _≤_, _<_}
 use mathlib.Core.Path.{_≡_, refl, sym, ap, ap₂, _∙_, subst}
 use mathlib.Core.Bool.{Bool, true, false, cond, _&&_, _||_}
 use mathlib.Core.List.{List, [], _∷_, _++_}
-use mathlib.Core.Option.{Option, none, some}
+use mathlib.Core.Option.{some}
 use native.Mathlib.Omega.{arith}
 use native.Mathlib.Decide.{ℕ-discrete}
 use native.Mathlib.Numerals.{add-one}
-use borrow.Author.Tests.{eq-eqb, ne-eqb, eqb-true}
+use borrow.Author.Tests.{eq-eqb, ne-eqb}
 use lib.Dec.{eqb}
 use lib.ListN.{length, getD, set, length-set}
 use lib.Seq.{getD-set-same, getD-set-other}
 use Rattle.paper.specs.Rows.{Rows}
-use Rattle.paper.specs.Machine.{Thread, at, Pair, State, isSeen, stopWith}
-use Rattle.paper.proofs.Once.{once, onceWithout, pairOf, pairsOf, once-snoc}
-use Rattle.visit.specs.Threads.{stored, placeIn, rowsIn, threads, threadIn, left}
+use Rattle.paper.specs.Machine.{Thread, at, State, isSeen, stopWith}
+use Rattle.paper.proofs.Once.{once, pairsOf, once-snoc}
+use Rattle.visit.specs.Threads.{stored, placeIn, threads, left}
 use Rattle.visit.specs.Shows.{Shows, Carried, Under}
 use Rattle.visit.specs.Moves.{Carries}
 use Rattle.visit.proofs.Stamps.{left-mark, mark-same, under-mark}

@@ -1,9 +1,9 @@
 -- The entry of a pair: its level times the places, and its place. Two pairs inside have two entries, and a level within a place's depth is inside.
-use Prim.Native.Nat.{ℕ, zero, suc, _+_, _-_, _*_, _≤_, _<_}
+use Prim.Native.Nat.{ℕ, zero, suc, _+_, _*_, _≤_, _<_}
 use mathlib.Core.Path.{_≡_, refl, sym, ap, _∙_, subst}
 use mathlib.Core.Bool.{Bool, true, false, cond, _&&_, _||_}
-use mathlib.Core.List.{List, [], _∷_, _++_}
-use mathlib.Core.Option.{Option, none, some}
+use mathlib.Core.List.{List, [], _∷_}
+use mathlib.Core.Option.{Option}
 use native.Mathlib.Omega.{arith}
 use native.Mathlib.Nat.{suc-mul, mul-le-mul-right, le-mul-of-pos-right}
 use native.Mathlib.Decide.{ℕ-discrete, decLt}
@@ -13,7 +13,7 @@ use lib.Dec.{eqb}
 use lib.ListN.{length, getD, set, length-append, List·getD-append}
 use lib.Seq.{getD-set-same, getD-set-other, getD-at}
 use Rattle.paper.specs.Rows.{Rows}
-use Rattle.paper.specs.Machine.{Place, Thread, at, State, isSeen, isWon, blocked, mark, stop}
+use Rattle.paper.specs.Machine.{at, State, isSeen, isWon, blocked, mark, stop}
 use Rattle.paper.specs.Tables.{decode, placeAt}
 use Rattle.visit.specs.Wired.{Wired, kindAt, nextAt, levelAfter}
 use Rattle.visit.specs.Shows.{Shows}

@@ -1,12 +1,12 @@
 -- The three ways of a place that leads nowhere at once: it carries its follower, it wins, or nothing comes of it.
-use Prim.Native.Nat.{ℕ, zero, suc, _+_, _-_, _*_, _≤_, _<_}
-use mathlib.Core.Path.{_≡_, refl, sym, ap, _∙_, subst}
-use mathlib.Core.Bool.{Bool, true, false, cond}
+use Prim.Native.Nat.{ℕ, _+_, _*_, _≤_, _<_}
+use mathlib.Core.Path.{_≡_, sym, subst}
+use mathlib.Core.Bool.{true, false}
 use mathlib.Core.List.{List}
 use native.Mathlib.Omega.{arith}
 use lib.ListN.{length}
 use Rattle.paper.specs.Rows.{Rows}
-use Rattle.paper.specs.Machine.{at, State, Move, moveAt, follow}
+use Rattle.paper.specs.Machine.{at, Move, moveAt, follow}
 use Rattle.paper.specs.Tables.{placeOf}
 use Rattle.visit.specs.Threads.{stored}
 use Rattle.visit.specs.Shows.{Shows, Carried}

@@ -1,6 +1,6 @@
 -- What holds whenever a visit's loop is at its test, and that each of the four ways round keeps it. Each new pair is one entry less without the stamp:
 -- that bounds the turns, the steps and the calls.
-use Prim.Native.Nat.{ℕ, zero, suc, _+_, _-_, _*_, _≤_, _<_, _^_}
+use Prim.Native.Nat.{ℕ, suc, _+_, _*_, _≤_, _<_, _^_}
 use mathlib.Core.Path.{_≡_, refl, sym, ap, _∙_, subst, subst₂}
 use mathlib.Core.Bool.{Bool, true, false, cond, not}
 use mathlib.Core.List.{List}
@@ -9,10 +9,10 @@ use borrow.Author.Tests.{not-true, not-false}
 use lib.Dec.{eqb}
 use lib.ListN.{length, getD, set, length-set}
 use Rattle.paper.specs.Rows.{Rows}
-use Rattle.paper.specs.Machine.{Thread, at, State, visit}
+use Rattle.paper.specs.Machine.{at, State, visit}
 use Rattle.paper.specs.Tables.{decode}
 use Rattle.visit.specs.Threads.{left}
-use Rattle.visit.specs.Wired.{Wired, Slots, kindAt, nextAt, firstAt, manyAt, levelAfter}
+use Rattle.visit.specs.Wired.{Wired, Slots, kindAt, levelAfter}
 use Rattle.visit.specs.Shows.{Shows, Carried, Under, Arrives, Visits}
 use Rattle.visit.specs.Moves.{Leads, Settling, Settles}
 use Rattle.visit.proofs.Stamps.{left-mark, mark-same, under-mark}

@@ -1,17 +1,14 @@
 -- The moves of the places that lead nowhere at once, by number: a set eats or dies, accept wins or dies, any other dies.
-use Prim.Native.Nat.{ℕ, zero, suc, _+_, _-_, _*_, _≤_, _<_}
-use mathlib.Core.Path.{_≡_, refl, sym, ap, _∙_, subst}
+use Prim.Native.Nat.{ℕ, _≤_, _<_}
+use mathlib.Core.Path.{_≡_, sym, ap, _∙_}
 use mathlib.Core.Bool.{Bool, true, false, cond}
-use mathlib.Core.List.{List, [], _∷_}
+use mathlib.Core.List.{List}
 use native.Mathlib.Omega.{arith}
 use native.Mathlib.Decide.{ℕ-discrete}
 use borrow.Author.Tests.{ne-eqb, eq-eqb}
-use lib.Dec.{eqb}
-use lib.ListN.{length, getD}
+use lib.ListN.{length}
 use Rattle.paper.specs.Rows.{Rows}
-use Rattle.paper.specs.Reading.{takes, everyByte}
-use Rattle.paper.specs.Check.{rangesOf, part}
-use Rattle.paper.specs.Machine.{Place, Move, moveAt}
+use Rattle.paper.specs.Machine.{Move, moveAt}
 use Rattle.paper.specs.Tables.{placeOf}
 use Rattle.visit.specs.Moves.{takesAt}
 use Rattle.visit.proofs.PlaceKinds.{eats-none}

@@ -1,15 +1,14 @@
 -- The kinds of place by number: what four numbers stand for, and what such a place does to a thread.
-use Prim.Native.Nat.{ℕ, zero, suc, _+_, _-_, _*_, _≤_, _<_}
-use mathlib.Core.Path.{_≡_, refl, sym, ap, _∙_, subst}
-use mathlib.Core.Bool.{Bool, true, false, cond, _&&_, _||_}
-use mathlib.Core.List.{List, [], _∷_}
+use Prim.Native.Nat.{ℕ, suc, _+_, _*_, _≤_, _<_}
+use mathlib.Core.Path.{_≡_, refl, sym, ap, _∙_}
+use mathlib.Core.Bool.{Bool, true, false, cond}
+use mathlib.Core.List.{List}
 use native.Mathlib.Omega.{arith}
 use native.Mathlib.Decide.{ℕ-discrete}
 use native.Mathlib.Numerals.{add-one}
-use borrow.Author.Tests.{ne-eqb, eq-eqb}
+use borrow.Author.Tests.{ne-eqb}
 use lib.Dec.{eqb}
 use lib.ListN.{length, getD, set}
-use Rattle.paper.specs.Pattern.{Range}
 use Rattle.paper.specs.Rows.{Rows, clear}
 use Rattle.paper.specs.Reading.{inSet, takes, everyByte}
 use Rattle.paper.specs.Check.{rangesOf, part}

@@ -1,24 +1,24 @@
 -- One turn of a visit's loop: what the tables show before it, with the bound that is left, and what they show after it,
 -- for each of the four ways round: the pair was seen, the place leads on, it leads nowhere, or it is a fork.
-use Prim.Native.Nat.{ℕ, zero, suc, _+_, _-_, _*_, _≤_, _<_, _^_}
-use mathlib.Core.Path.{_≡_, refl, sym, ap, ap₂, _∙_, subst}
+use Prim.Native.Nat.{ℕ, zero, suc, _+_, _*_, _<_}
+use mathlib.Core.Path.{_≡_, refl, sym, ap, _∙_, subst}
 use mathlib.Core.Bool.{Bool, true, false, cond, not, _||_}
 use mathlib.Core.List.{List}
 use mathlib.Core.Option.{Option, none, some}
 use native.Mathlib.Omega.{arith}
 use borrow.Author.Tests.{not-true, not-false}
 use lib.Dec.{eqb}
-use lib.ListN.{length, getD, set, length-set}
+use lib.ListN.{length, getD, set}
 use Rattle.paper.specs.Rows.{Rows}
-use Rattle.paper.specs.Machine.{Place, Thread, at, State, Move, isSeen, isWon, blocked, mark, follow, arrive, visit, moveAt, stop}
+use Rattle.paper.specs.Machine.{Place, Thread, at, State, isSeen, isWon, mark, follow, arrive, visit, moveAt}
 use Rattle.paper.specs.Tables.{decode, placeAt, placeOf}
 use Rattle.paper.proofs.Once.{visit-blocked}
 use Rattle.visit.specs.Threads.{left, rowsIn}
-use Rattle.visit.specs.Wired.{Wired, kindAt, nextAt, firstAt, manyAt, levelAfter}
-use Rattle.visit.specs.Shows.{Shows, Carried, Under, Arrives, Visits}
-use Rattle.visit.specs.Moves.{Leads, Settling, Settles}
-use Rattle.visit.proofs.Stamps.{left-mark, mark-same, under-mark}
-use Rattle.visit.proofs.Cells.{cell-inside, level-inside, deep-after, decode-at, blocked-shown, shows-mark}
+use Rattle.visit.specs.Wired.{kindAt, nextAt, firstAt, manyAt}
+use Rattle.visit.specs.Shows.{Shows, Visits}
+use Rattle.visit.specs.Moves.{Leads, Settles}
+use Rattle.visit.proofs.Stamps.{left-mark, mark-same}
+use Rattle.visit.proofs.Cells.{decode-at, blocked-shown, shows-mark}
 
 -- the tables show a state from which what is left of the visit, if anything, gives the final state
 pub record Stands (code pattern line : List ℕ) (places p : ℕ) (seen taken list : List ℕ) (count steps : ℕ) (goes done : Bool) (t : Thread) (final : State) : Type 0 where

@@ -326,6 +326,7 @@ pub fn visit(
                 goes = false;
             }
         } else {
+            // A pair that was seen is dropped.
             goes = false;
         }
     }

@@ -1,9 +1,7 @@
 -- By cases on the flag.
-use Prim.Native.Nat.{ℕ}
-use mathlib.Core.Path.{_≡_, sym, ap}
+use mathlib.Core.Path.{sym, ap}
 use mathlib.Core.Bool.{Bool, not, _&&_}
 use lib.Dec.{ltb}
-use native.Mathlib.Omega.{arith}
 use borrow.Author.Needs.{needs}
 use Rattle.run.proofs.more.Statement.{statement}
 use Rattle.run.proofs.more.Tie as tie

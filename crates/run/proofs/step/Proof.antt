@@ -1,8 +1,7 @@
 -- Each turn visits one thread and keeps `Walk`.
-use Prim.Native.Nat.{ℕ, _+_, _-_, _*_}
-use mathlib.Core.Path.{_≡_, sym, _∙_}
+use Prim.Native.Nat.{_+_, _-_}
 use mathlib.Core.Bool.{cond}
-use Rattle.run.proofs.Walk.{Walk, walk-first, walk-inside, walk-room, walk-asked, walk-next, walk-last, walk-less}
+use Rattle.run.proofs.Walk.{Walk, walk-first, walk-room, walk-asked, walk-next, walk-last, walk-less}
 use borrow.Author.Needs.{needs}
 use native.Mathlib.Omega.{arith}
 use Rattle.run.proofs.step.Statement.{statement}

@@ -1,6 +1,6 @@
 -- What is passed is all 0, what is left is as it was.
-use Prim.Native.Nat.{ℕ, _+_, _-_, _≤_}
-use mathlib.Core.Path.{_≡_, refl, sym, ap, _∙_}
+use Prim.Native.Nat.{ℕ, _-_, _≤_}
+use mathlib.Core.Path.{_≡_, ap, _∙_}
 use mathlib.Core.List.{List, _++_, append-nil}
 use lib.ListN.{length, replicate, drop, set}
 use lib.Seq.{drop-length}

@@ -1,10 +1,8 @@
 -- Each turn keeps `Turn`, by one law a way round; the measure is how many entries of `seen` lack this position's stamp.
-use borrow.Author.Needs.{needs}
 use native.Mathlib.Omega.{arith}
 use Prim.Native.Nat.{ℕ, _<_, _+_}
-use mathlib.Core.Path.{_≡_, refl, sym, _∙_, subst}
+use mathlib.Core.Path.{subst}
 use mathlib.Core.Bool.{false, not}
-use lib.ListN.{length}
 use Rattle.visit.specs.Threads.{left}
 use Rattle.visit.proofs.Loop.{Turn, turns, turn-first, turn-cell, turn-level, turn-numbers, turn-last, turn-seen, less-seen, turn-countable, less-new, lead-slots, turn-lead, settle-asked, turn-settle, fork-asked, fork-less, turn-fork}
 use borrow.Fn.Kinds.{In}

@@ -1,7 +1,6 @@
 -- The mark says whether a thread is carried there already.
 use mathlib.Core.Path.{refl}
 use Rattle.visit.proofs.Stores.{carries-new, carries-not}
-use native.Mathlib.Omega.{arith}
 use borrow.Author.Needs.{needs}
 use Rattle.visit.proofs.carry.Statement.{statement}
 use Rattle.visit.proofs.carry.Tie as tie

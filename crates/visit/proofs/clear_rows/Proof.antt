@@ -1,10 +1,9 @@
 -- Each turn clears one row, as each clause of the definition does.
 use borrow.Author.Needs.{needs}
-use Prim.Native.Nat.{ℕ, _+_, _≤_}
-use mathlib.Core.Path.{_≡_, refl, sym, _∙_}
+use Prim.Native.Nat.{_+_, _≤_}
+use mathlib.Core.Path.{_≡_, sym, _∙_}
 use Rattle.paper.specs.Rows.{clear}
 use Rattle.visit.proofs.Ranges.{clear-more, clear-none}
-use native.Mathlib.Omega.{arith}
 use Rattle.visit.proofs.clear_rows.Statement.{statement}
 use Rattle.visit.proofs.clear_rows.Tie as tie
 use Rattle.visit.proofs.clear_rows.Reads as reads

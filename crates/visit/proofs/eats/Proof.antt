@@ -1,8 +1,7 @@
 -- The kind says which set, and the place that it stands for is the one that takes the byte.
 use borrow.Author.Needs.{needs}
-use mathlib.Core.Path.{_≡_, _∙_}
+use mathlib.Core.Path.{_∙_}
 use Rattle.visit.proofs.PlaceKinds.{eats-set, eats-any, eats-none, eats-end}
-use native.Mathlib.Omega.{arith}
 use borrow.Author.Needs.{needs}
 use Rattle.visit.proofs.eats.Statement.{statement}
 use Rattle.visit.proofs.eats.Tie as tie

@@ -1,11 +1,10 @@
 -- Each turn reads one range of the set: it holds the byte, or the others decide.
 use borrow.Author.Needs.{needs}
-use Prim.Native.Nat.{ℕ, _+_, _*_, _≤_}
-use mathlib.Core.Path.{_≡_, refl, sym, _∙_}
+use Prim.Native.Nat.{_+_, _*_, _≤_}
+use mathlib.Core.Path.{_≡_, sym, _∙_}
 use mathlib.Core.Logic.{⊎-elim}
 use lib.ListN.{length}
 use Rattle.visit.proofs.Ranges.{held, held-none, held-here, held-below, held-above}
-use native.Mathlib.Omega.{arith}
 use Rattle.visit.proofs.in_set.Statement.{statement}
 use Rattle.visit.proofs.in_set.Tie as tie
 use Rattle.visit.proofs.in_set.Reads as reads

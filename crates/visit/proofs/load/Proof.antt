@@ -1,7 +1,7 @@
 -- Each turn copies one number of the rows.
 use borrow.Author.Needs.{needs}
 use Prim.Native.Nat.{ℕ, _+_, _-_, _*_, _≤_, _<_}
-use mathlib.Core.Path.{_≡_, refl, sym, _∙_}
+use mathlib.Core.Path.{_≡_}
 use lib.ListN.{length, getD}
 use Rattle.visit.proofs.Stores.{copy-more, copied}
 use native.Mathlib.Omega.{arith}

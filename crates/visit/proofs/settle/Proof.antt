@@ -1,5 +1,5 @@
 -- One way for each kind of end.
-use Prim.Native.Nat.{_+_, _*_, _<_, _≤_}
+use Prim.Native.Nat.{_<_}
 use mathlib.Core.Path.{_≡_, sym, _∙_}
 use lib.ListN.{length}
 use Rattle.visit.proofs.Ending.{settle-room, settle-inside, settles-eat, settles-win, settles-early, settles-die}

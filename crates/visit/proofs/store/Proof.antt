@@ -1,7 +1,7 @@
 -- Each turn copies one number of the rows behind the place.
 use borrow.Author.Needs.{needs}
 use Prim.Native.Nat.{ℕ, _+_, _-_, _*_, _≤_, _<_}
-use mathlib.Core.Path.{_≡_, refl, sym, _∙_}
+use mathlib.Core.Path.{_≡_, sym, _∙_}
 use mathlib.Core.List.{List}
 use mathlib.Core.Path.{ap}
 use native.Mathlib.Numerals.{add-one}
