@@ -3,3 +3,4 @@ pub mod Wiring
 pub mod Running
 pub mod Answering
 pub mod Building
+pub mod Impostors

@@ -22,7 +22,7 @@ use Rattle.paper.proofs.MovedMachine.{movedStopped, steps-moved, rows-moved, ma
 use Rattle.visit.specs.Threads.{threadNumbers}
 use Rattle.visit.specs.Wired.{Wired}
 use Rattle.run.specs.Steps.{Running, stoppedAs, Runs}
-use Rattle.matcher.specs.Machine.{wrapped, firstGroup, Ready, RunsFrom, Gives}
+use Rattle.matcher.specs.Machine.{wrapped, firstGroup, Ready, RunsFrom, Gives, OrNone}
 use Rattle.matcher.proofs.Wiring.{ready-places, ready-pairs, ready-wired}
 
 -- a machine that is ready can be run in scratch of its sizes
@@ -86,6 +86,11 @@ gives-none : {found : Option Rows} {count steps : ℕ} → count ≡ steps → n
 gives-none {found} {count} {steps} c e =
     subst (λ (f : Option Rows). Gives f count false steps noRows) e (record { matched-is = refl; steps-are = sym c; rows-are = refl })
 
+kept : {found : Option Rows} {count steps steps′ : ℕ} {matched matched′ : Bool} {rows rows′ : Rows} → Gives found count matched steps (cond matched rows noRows)
+    → OrNone matched steps rows matched′ steps′ rows′ → Gives found count matched′ steps′ rows′
+kept g o =
+    record { matched-is = o .matched-is ∙ g .matched-is; steps-are = o .steps-are ∙ g .steps-are; rows-are = o .rows-are ∙ g .rows-are }
+
 -- an accepted pattern has one tree
 one-tree : (pattern : List ℕ) {e f : Pattern} → patternOf pattern ≡ accepted e → patternOf pattern ≡ accepted f → e ≡ f
 one-tree pattern {e} {f} h h′ = let same : accepted e ≡ accepted f = sym h ∙ h′ in cc
@@ -101,16 +106,24 @@ module _ (pattern code line : List ℕ) (places deep : ℕ) (found : Bool) (step
     match-rows : (stopped : Stopped) → stopped ≡ machine e 1 line → withRow0 (length line) (rowsOf stopped) ≡ wholeMatch e line
     match-rows stopped same = ap (λ (s : Stopped). withRow0 (length line) (rowsOf s)) same ∙ machine-matches e line
 
-    -- row 0 is the line
-    pub match-found : found ≡ true → Gives (wholeMatch e line) (matchSteps e line) true steps (setRow 0 0 (length line) rows)
+    match-found : found ≡ true → Gives (wholeMatch e line) (matchSteps e line) true steps (setRow 0 0 (length line) rows)
     match-found is =
         let same : matched steps rows ≡ machine e 1 line = ap (λ (b : Bool). stoppedAs b steps rows) (sym is) ∙ matches in
         gives-rows (setRow 0 0 (length line) rows) (sym (ap stepsOf same)) (match-rows (matched steps rows) same)
 
-    pub match-none : found ≡ false → Gives (wholeMatch e line) (matchSteps e line) false steps noRows
+    match-none : found ≡ false → Gives (wholeMatch e line) (matchSteps e line) false steps noRows
     match-none is =
         let same : unmatched steps ≡ machine e 1 line = ap (λ (b : Bool). stoppedAs b steps rows) (sym is) ∙ matches in
         gives-none (sym (ap stepsOf same)) (match-rows (unmatched steps) same)
+
+    -- row 0 is the line
+    pub match-gives : {matched′ : Bool} {steps′ : ℕ} {rows′ : Rows} → OrNone found steps (setRow 0 0 (length line) rows) matched′ steps′ rows′
+        → Gives (wholeMatch e line) (matchSteps e line) matched′ steps′ rows′
+    match-gives = kept (look found refl)
+      where
+        look : (b : Bool) → found ≡ b → Gives (wholeMatch e line) (matchSteps e line) b steps (cond b (setRow 0 0 (length line) rows) noRows)
+        look true is = match-found is
+        look false is = match-none is
 
   -- a search from a position, by a machine built for it
   module _ (from : ℕ) (m : Ready pattern code true places deep) (ran : RunsFrom pattern code line places deep from found steps rows)
@@ -128,12 +141,20 @@ module _ (pattern code line : List ℕ) (places deep : ℕ) (found : Bool) (step
     search-rows stopped same =
         ap rowsOf same ∙ rows-moved from (machine (wrap e) 0 rest) ∙ ap (Option·map (moved from)) (machine-searches e rest)
 
-    pub search-found : found ≡ true → Gives (Option·map (moved from) (search e rest)) (searchSteps e rest) true steps rows
+    search-found : found ≡ true → Gives (Option·map (moved from) (search e rest)) (searchSteps e rest) true steps rows
     search-found is =
         let same : matched steps rows ≡ movedStopped from (machine (wrap e) 0 rest) = ap (λ (b : Bool). stoppedAs b steps rows) (sym is) ∙ searches in
         gives-rows rows (search-count (matched steps rows) same) (search-rows (matched steps rows) same)
 
-    pub search-none : found ≡ false → Gives (Option·map (moved from) (search e rest)) (searchSteps e rest) false steps noRows
+    search-none : found ≡ false → Gives (Option·map (moved from) (search e rest)) (searchSteps e rest) false steps noRows
     search-none is =
         let same : unmatched steps ≡ movedStopped from (machine (wrap e) 0 rest) = ap (λ (b : Bool). stoppedAs b steps rows) (sym is) ∙ searches in
         gives-none (search-count (unmatched steps) same) (search-rows (unmatched steps) same)
+
+    pub search-gives : {matched′ : Bool} {steps′ : ℕ} {rows′ : Rows} → OrNone found steps rows matched′ steps′ rows′
+        → Gives (Option·map (moved from) (search e rest)) (searchSteps e rest) matched′ steps′ rows′
+    search-gives = kept (look found refl)
+      where
+        look : (b : Bool) → found ≡ b → Gives (Option·map (moved from) (search e rest)) (searchSteps e rest) b steps (cond b rows noRows)
+        look true is = search-found is
+        look false is = search-none is

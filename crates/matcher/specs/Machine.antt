@@ -1,7 +1,7 @@
 -- A machine built once and run on many lines: what the tables hold, what a run of it asks and gives. Inner promises cite this file; no public promise does.
 use Prim.Native.Nat.{ℕ, _+_, _*_, _≤_, _<_}
 use mathlib.Core.Path.{_≡_}
-use mathlib.Core.Bool.{Bool, true, false}
+use mathlib.Core.Bool.{Bool, true, false, cond}
 use mathlib.Core.List.{List}
 use mathlib.Core.Option.{Option, Option·map}
 use lib.ListN.{length, drop}
@@ -10,7 +10,7 @@ use Rattle.paper.specs.Refusal.{refused, accepted}
 use Rattle.paper.specs.Pattern.{Pattern, allPlaces, depth, groups}
 use Rattle.paper.specs.Layout.{Lawful}
 use Rattle.paper.specs.Check.{patternOf}
-use Rattle.paper.specs.Rows.{Rows}
+use Rattle.paper.specs.Rows.{Rows, noRows}
 use Rattle.paper.specs.Machine.{placesOf, machine}
 use Rattle.paper.specs.Match.{wrap, wholeMatch, search, matchSteps, searchSteps, isMatch, rowsOrNone}
 use Rattle.paper.specs.Tables.{placeNumbers, decode}
@@ -72,6 +72,12 @@ pub record Gives (found : Option Rows) (count : ℕ) (matched : Bool) (steps : �
   pub matched-is : matched ≡ isMatch found
   pub steps-are : steps ≡ count
   pub rows-are : rows ≡ rowsOrNone found
+
+-- the same rows where there is a match, else none
+pub record OrNone (matched : Bool) (steps : ℕ) (rows : Rows) (matched′ : Bool) (steps′ : ℕ) (rows′ : Rows) : Type 0 where
+  pub matched-is : matched′ ≡ matched
+  pub steps-are : steps′ ≡ steps
+  pub rows-are : rows′ ≡ cond matched rows noRows
 
 -- what a whole match gives for an accepted pattern, and a search from a position
 abbrev pub MatchGives : List ℕ → List ℕ → Bool → ℕ → Rows → Type 0

@@ -13,7 +13,7 @@ ghost use Rattle.paper.specs.Limits.{tableNumbers, lineBytes};
 ghost use Rattle.places.specs.Asked.{tableRoom};
 ghost use Rattle.matcher.specs.Answer.{TellsSteps};
 ghost use Rattle.matcher.specs.Promise.{Matches, Searches, Answers};
-ghost use Rattle.matcher.specs.Machine.{Builds, Ready, Runnable, RunsFrom, MatchGives, SearchGives, FoundGives};
+ghost use Rattle.matcher.specs.Machine.{Builds, Ready, Runnable, RunsFrom, OrNone, MatchGives, SearchGives, FoundGives};
 
 // The sizes of a machine's tables, for the largest pattern with a search's wrap around it.
 pub struct Machine {}
@@ -119,7 +119,27 @@ pub fn run_built(
     )
 }
 
-// A whole match by a machine built for it: its rows and steps by value. Row 0 is the whole line.
+// Rows and steps by value, the rows all absent where there is no match.
+fn found(matched: bool, steps: u32, rows: [u16; Spans::NUMBERS]) -> Ran
+    ensures { λ r. ⌜ OrNone matched steps rows (r .matched) (r .steps) (r .rows) ⌝ }
+{
+    if matched {
+        Ran {
+            matched,
+            steps,
+            rows,
+        }
+    } else {
+        let none = Spans::absent_table();
+        Ran {
+            matched,
+            steps,
+            rows: none,
+        }
+    }
+}
+
+// A whole match by a machine built for it. Row 0 is the whole line.
 pub fn match_rows(
     pattern: &[u8],
     code: &[u16],
@@ -147,24 +167,12 @@ pub fn match_rows(
         other,
     );
     let mut rows = ran.rows;
-    if ran.matched {
-        rows[0] = 0;
-        rows[1] = line.len() as u16;
-        Ran {
-            matched: true,
-            steps: ran.steps,
-            rows,
-        }
-    } else {
-        Ran {
-            matched: false,
-            steps: ran.steps,
-            rows: Spans::absent_table(),
-        }
-    }
+    rows[0] = 0;
+    rows[1] = line.len() as u16;
+    found(ran.matched, ran.steps, rows)
 }
 
-// A search from a position on by a machine built for it: its rows, as places in the whole line, and its steps by value.
+// A search from a position on by a machine built for it. The rows are places in the whole line.
 pub fn search_rows(
     pattern: &[u8],
     code: &[u16],
@@ -193,19 +201,7 @@ pub fn search_rows(
         other,
     );
     let rows = ran.rows;
-    if ran.matched {
-        Ran {
-            matched: true,
-            steps: ran.steps,
-            rows,
-        }
-    } else {
-        Ran {
-            matched: false,
-            steps: ran.steps,
-            rows: Spans::absent_table(),
-        }
-    }
+    found(ran.matched, ran.steps, rows)
 }
 
 // A whole match, or a search from the line's start, by a machine built for it, in scratch of its own.
@@ -253,7 +249,7 @@ fn find(
 }
 
 // Writes rows to the front of a table.
-pub fn fill(table: &mut [u16], rows: [u16; 20])
+pub fn fill(table: &mut [u16], rows: [u16; Spans::NUMBERS])
     requires { ⌜ tableNumbers ≤ length (now table) ⌝ }
     ensures { λ _. ⌜ now (table .exit) ≡ rows ++ drop tableNumbers (now (table .entry)) ⌝ }
 {
