@@ -33,6 +33,7 @@ held (sequence ms) = listOf ms
 held (alternation ms) = listOf ms
 held (repeat least upper mode e) = e ∷ []
 
+-- members that stand make a row
 pub members-row : (ms : Members) (bs : List ℕ) (at stop : ℕ) → AllStand bs at stop ms → Row bs at stop (listOf ms)
 members-row (two a b) bs at stop h = (h .0, (h .1, h .2))
 members-row (more a ms) bs at stop h = (h .0, members-row ms bs (bodyEnd bs at) stop (h .1))
@@ -42,14 +43,17 @@ pub members-places : (ms : Members) → placesIn (listOf ms) ≡ placesOfAll ms
 members-places (two a b) = omega arith
 members-places (more a ms) = omega (arith, members-places ms)
 
+-- the groups of members
 pub members-groups : (ms : Members) → groupsIn (listOf ms) ≡ groupsOfAll ms
 members-groups (two a b) = omega arith
 members-groups (more a ms) = omega (arith, members-groups ms)
 
+-- how many members there are
 pub members-count : (ms : Members) → length (listOf ms) ≡ pattern.count ms
 members-count (two a b) = refl
 members-count (more a ms) = ap suc (members-count ms)
 
+-- members are two or more
 pub members-two : (ms : Members) → 2 ≤ length (listOf ms)
 members-two (two a b) = omega arith
 members-two (more a ms) = omega (arith, members-two ms)
@@ -200,12 +204,14 @@ pub record Rest (bs : List ℕ) (at stop : ℕ) (all : List Pattern) (p g k : �
   pub groups-left : g + groupsIn records ≡ groupsIn all
   pub count-left : k + length records ≡ length all
 
+-- what the loop over a row keeps: the sum so far is cut, and with the rest it makes the whole for every tree
 pub record Adding (bs : List ℕ) (at stop from p g k : ℕ) : Type 0 where
   pub small : p ≤ 501
   pub passed : at + k ≤ from
   pub before : from ≤ stop
   pub rest : (m : Counting bs at stop) → Rest bs from stop (m .records) p g k
 
+-- nothing is summed where the loop begins
 pub adding-none : {bs : List ℕ} {at stop : ℕ} → Counting bs at stop → Adding bs at stop at 0 0 0
 adding-none {bs} {at} {stop} m =
     record {
@@ -225,6 +231,7 @@ first-of {bs} {from} {stop} {g = g} {all = all} ends short few lt r = on (r .rec
     on (e ∷ es) h same =
         record { tree = e; stand = h .0; fits = omega (arith, row-long es bs _ stop (h .1)); ends = ends; short = short; few = omega arith }
 
+-- while the loop has not ended there is a first record
 pub first : {bs : List ℕ} {at stop from p g k : ℕ} → Counting bs at stop → Adding bs at stop from p g k → from < stop → First bs from stop
 first m a lt = first-of (m .ends) (m .short) (m .few) lt (a .rest m)
 
@@ -272,6 +279,7 @@ more-rest {bs} {from} {stop} {p} {g} {k} {ip} {ig} {ik} {q} {all} ends short few
           count-left = omega arith;
         }
 
+-- a turn of the loop
 pub adding-more : {bs : List ℕ} {at stop from p g k ip ig ik q : ℕ} → Counting bs at stop → Adding bs at stop from p g k → from < stop
     → Counted bs (insideStart (kindAt bs from) (bodyStart from) (bodyEnd bs from)) (bodyEnd bs from) ip ig ik
     → Capped (p + ownPlaces bs (kindAt bs from) (bodyStart from) ip ik) q
@@ -306,20 +314,25 @@ inside-after kind start end le = pick (ltb kind 3) (ltb kind 6)
 
 -- the same three facts of the numbers that were read
 module _ {bs : List ℕ} {kind len r : ℕ} (from : ℕ) (ek : kind ≡ kindAt bs from) (el : len ≡ numberAt bs from) (er : r ≡ insideStart kind (from + 4) (from + 4 + len)) where
+  -- the records inside the one that was read
   pub read-inside : {stop : ℕ} → First bs from stop → Counting bs r (from + 4 + len)
   read-inside f = rw (er, ek, el) (first-inside f)
 
+  -- what they add up to
   pub read-counted : {ip ig ik : ℕ} → Counted bs r (from + 4 + len) ip ig ik
       → Counted bs (insideStart (kindAt bs from) (bodyStart from) (bodyEnd bs from)) (bodyEnd bs from) ip ig ik
   read-counted c = rw (er, ek, el) at c
 
+  -- what `own_places` asks of them
   pub read-own : {stop ip ig ik : ℕ} → First bs from stop → Counted bs r (from + 4 + len) ip ig ik → OwnPlaces bs kind (from + 4) ip ik
   read-own {ip = ip} {ik = ik} f c =
       rw ek (own-asked (f .tree) bs from ip ik (f .stand) (omega arith) (f .short) (c .small) (read-counted c .sums (first-inside f) .records-are))
 
+  -- their groups are few
   pub read-groups : {stop ip ig ik : ℕ} → First bs from stop → Counted bs r (from + 4 + len) ip ig ik → ig ≤ 10
   read-groups f c = omega (arith, read-counted c .sums (first-inside f) .groups-are, held-groups (f .tree))
 
+  -- a turn of the loop
   pub adding-turn : {at stop p g k ip ig ik own q og : ℕ} → Counting bs at stop → Adding bs at stop from p g k → from < stop
       → Counted bs r (from + 4 + len) ip ig ik → own ≡ ownPlaces bs kind (from + 4) ip ik → Capped (p + own) q → og ≡ ownGroups kind ig
       → Adding bs at stop (from + 4 + len) q (g + og) (k + 1)

@@ -38,6 +38,7 @@ single m =
 head-stands : (bs : List ℕ) {kind a n base v w : ℕ} {t t1 : List ℕ} → v ≡ w → Head kind a n → Put t base kind v a n t1 → Holds t1 bs base (placeOf bs kind w a n)
 head-stands bs {kind} {a} {n} {base} {t1 = t1} ev h put = subst (λ (v : ℕ). Holds t1 bs base (placeOf bs kind v a n)) ev (plain-holds bs put (h .no-set))
 
+-- a head and the expression behind it
 pub head-row : {bs : List ℕ} {at stop kind a n base next first p v : ℕ} {t t1 t2 : List ℕ} → v ≡ entryOf p (base + 1) next → Head kind a n
     → Put t base kind v a n t1 → SeveralLaid bs at stop false (base + 1) next first p t1 t2 → HeadLaid bs at stop kind a n base next first p t t2
 head-row {bs} {base = base} {p = p} ev h put row =
@@ -47,6 +48,7 @@ head-row {bs} {base = base} {p = p} ev h put row =
       laid = λ m. row .laid (single m);
     }
 
+-- a head before an expression without places
 pub head-alone : {bs : List ℕ} {at stop kind a n base next first p v : ℕ} {t t1 : List ℕ} → v ≡ entryOf p (base + 1) next → Head kind a n
     → Put t base kind v a n t1 → p ≡ 0 → HeadLaid bs at stop kind a n base next first p t t1
 head-alone {bs} {base = base} {next = next} {first = first} {p = p} {t1 = t1} ev h put none =
@@ -70,6 +72,7 @@ must-one {least = least} {may = may} {base = base} {next = next} {p = p} v m som
       follows = omega (arith, ev, entry-small (least - 1 + may) (base + 1 + p) next {most = 510} (omega (arith, m .room, places-must least may p some)) (m .follows));
     }
 
+-- what the rest is asked for
 abbrev pub must-rest : {bs : List ℕ} {at stop least may base next first g p : ℕ} {endless : Bool}
     → Repeating bs at stop least may endless base next first g p → (least ≡ 0 → ⊥)
     → Repeating bs at stop (least - 1) may endless (base + 1 + p) next first g p
@@ -123,6 +126,7 @@ may-one {least = least} {may = may} {p = p} m none some =
       follows = omega (arith, m .room, places-may least may p none some);
     }
 
+-- what the rest is asked for
 abbrev pub may-rest : {bs : List ℕ} {at stop least may base next first g p : ℕ} {endless : Bool}
     → Repeating bs at stop least may endless base next first g p → least ≡ 0 → (may ≡ 0 → ⊥)
     → Repeating bs at stop 0 (may - 1) endless (base + 1 + 1 + p + 1) next first g p
@@ -168,6 +172,7 @@ module _ {bs : List ℕ} {at stop least may mode base next first g p v : ℕ} {t
   end-stands : Kept (base + 1 + 1 + p + 1) (base + 1 + 1 + p + 1 + passPlaces 0 (may - 1) p) t3 t4 → Holds t4 bs (base + 1 + 1 + p) (ending v)
   end-stands k = holds-kept k (omega arith) (plain-holds bs end (omega arith))
 
+  -- the fork, the pass, its end and the rest lay the optional passes
   pub may-laid : (endless : Bool) → v ≡ cond endless base (entryOf (may - 1) (base + 1 + 1 + p + 1) next)
       → PassesLaid bs at stop 0 (may - 1) endless mode (base + 1 + 1 + p + 1) next first g p t3 t4
       → PassesLaid bs at stop least may endless mode base next first g p t t4
@@ -223,6 +228,7 @@ head-fits {base = base} {next = next} {p = p} m h room ev =
       n-fits = omega (arith, h .n-small);
     }
 
+-- the groups that a begin names are few
 pub pass-head : {bs : List ℕ} {at stop least may base next first g p : ℕ} {endless : Bool} (kind : ℕ)
     → Repeating bs at stop least may endless base next first g p → kind < 6 → Head kind first g
 pass-head kind m low = record { no-set = low; a-small = omega (arith, m .inside .few); n-small = omega (arith, m .inside .few, m .groups-are) }

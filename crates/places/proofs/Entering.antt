@@ -12,9 +12,11 @@ use Rattle.paper.specs.Machine.{Core, skip, must, maybe, star, size, passFork, 
 use Rattle.places.specs.Laid.{Holds, Lays, entryOf}
 use Rattle.places.specs.Asked.{optionalCore, passCore, passPlaces}
 
+-- what has no places is entered at what follows it
 pub entry-none : (n base next : ℕ) → n ≡ 0 → entryOf n base next ≡ next
 entry-none n base next none = ap (λ (b : Bool). cond b next base) (eq-eqb n 0 none)
 
+-- what has places is entered at its first
 pub entry-some : (n base next : ℕ) → (n ≡ 0 → ⊥) → entryOf n base next ≡ base
 entry-some n base next some = ap (λ (b : Bool). cond b next base) (ne-eqb n 0 some)
 
@@ -38,6 +40,7 @@ passes-some zero zero p e = omega arith
 passes-some zero (suc may) p e = absurd (omega (arith, suc-mul may (3 + p), zero-mul (1 + p)))
 passes-some (suc least) may p e = absurd (omega (arith, suc-mul least (1 + p)))
 
+-- without passes there are no places
 pub passes-none : (least may p : ℕ) → least + may ≡ 0 → passPlaces least may p ≡ 0
 passes-none zero zero p e = omega (arith, zero-mul (3 + p), zero-mul (1 + p))
 passes-none zero (suc may) p e = absurd (omega arith)
@@ -51,6 +54,7 @@ places-must (suc least) may p some = omega (arith, suc-mul least (1 + p), ap (λ
     less : (k : ℕ) → suc k - 1 ≡ k
     less k = omega arith
 
+-- the first optional pass of a run, and the rest
 pub places-may : (least may p : ℕ) → least ≡ 0 → (may ≡ 0 → ⊥) → passPlaces least may p ≡ 3 + p + passPlaces 0 (may - 1) p
 places-may least zero p none some = absurd (some refl)
 places-may least (suc may) p none some =
@@ -60,6 +64,7 @@ places-may least (suc may) p none some =
     less k = omega arith
 
 module _ (mode : Mode) (first n : ℕ) (e : Core) where
+  -- a run that begins with a pass that must be made
   pub core-must : (least : ℕ) (endless : Bool) (may : ℕ) → (least ≡ 0 → ⊥)
       → passCore least endless may mode first n e ≡ must first n e (passCore (least - 1) endless may mode first n e)
   core-must zero endless may some = absurd (some refl)
@@ -68,16 +73,19 @@ module _ (mode : Mode) (first n : ℕ) (e : Core) where
       less : (k : ℕ) → k ≡ suc k - 1
       less k = omega arith
 
+  -- a run without passes
   pub core-none : (least : ℕ) (endless : Bool) (may : ℕ) → least ≡ 0 → may ≡ 0 → passCore least endless may mode first n e ≡ skip
   core-none least true may none nones =
       ap (λ (k : ℕ). passCore k true may mode first n e) none ∙ ap (λ (k : ℕ). optionalCore true k mode first n e) nones
   core-none least false may none nones =
       ap (λ (k : ℕ). passCore k false may mode first n e) none ∙ ap (λ (k : ℕ). optionalCore false k mode first n e) nones
 
+  -- a run that is one pass without an upper end
   pub core-star : (least may : ℕ) → least ≡ 0 → (may ≡ 0 → ⊥) → passCore least true may mode first n e ≡ star mode first n e
   core-star least zero none some = absurd (some refl)
   core-star least (suc may) none some = ap (λ (k : ℕ). passCore k true (suc may) mode first n e) none
 
+  -- a run that begins with an optional pass
   pub core-maybe : (least may : ℕ) → least ≡ 0 → (may ≡ 0 → ⊥)
       → passCore least false may mode first n e ≡ maybe mode first n e (passCore 0 false (may - 1) mode first n e)
   core-maybe least zero none some = absurd (some refl)

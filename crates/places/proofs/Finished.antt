@@ -24,9 +24,11 @@ abbrev pub whole-counting : {bs : List ℕ} {e : Pattern} → Whole bs e → Cou
 whole-counting {bs} {e} w =
     record { records = e ∷ []; stand = (w .stand, w .end-is); ends = omega arith; short = w .short; few = omega (arith, w .few-groups) }
 
+-- its places are what was counted
 pub whole-places : {bs : List ℕ} {e : Pattern} {p g k : ℕ} → Counted bs 0 (length bs) p g k → Whole bs e → p ≡ places e
 whole-places c w = omega (arith, c .sums (whole-counting w) .places-are (omega (arith, w .few-places)))
 
+-- so are its groups
 pub whole-groups : {bs : List ℕ} {e : Pattern} {p g k : ℕ} → Counted bs 0 (length bs) p g k → Whole bs e → g ≡ groups e
 whole-groups c w = omega (arith, c .sums (whole-counting w) .groups-are)
 

@@ -52,9 +52,11 @@ lists-more {t} {p} {base} {n} {q} {qs} h l =
     look x true e low high = l .readable x (omega (arith, ltb-true base x e)) (omega arith)
     look x false e low high = let same : base ≡ x = omega (arith, ltb-false base x e) in subst (Readable t p) same (h .readable)
 
+-- one place
 pub lists-one : {t p : List ℕ} {base : ℕ} {q : Place} → Holds t p base q → Lists t p base 1 (q ∷ [])
 lists-one {t} {p} {base} h = lists-more h (lists-none t p (base + 1))
 
+-- places, then others
 pub lists-both : {t p : List ℕ} {base m n : ℕ} {ps qs : List Place} → Lists t p base m ps → Lists t p (base + m) n qs → Lists t p base (m + n) (ps ++ qs)
 lists-both {t} {p} {base} {m} {n} {ps} {qs} k l =
     record {

@@ -48,12 +48,15 @@ module _ {bs : List ℕ} {start stop base next first least most mode p g k : ℕ
   mode-is : modeOf mode ≡ m .mode
   mode-is = ap modeOf (ed ∙ m .numbers .mode-is) ∙ mode-of-number (m .mode)
 
+  -- the groups inside
   pub groups-is : g ≡ groups (m .tree)
   groups-is = omega (arith, c .sums (repeat-counting m) .groups-are)
 
+  -- the places inside
   pub places-is : p ≡ places (m .tree)
   places-is = omega (arith, c .sums (repeat-counting m) .places-are (omega (arith, m .small)))
 
+  -- there is room for the places of the repeat
   pub room-is : base + repeatPlaces least (upperOf most) p ≤ 510
   room-is = rw (least-is, upper-is, places-is) (m .room)
 
@@ -67,12 +70,15 @@ module _ {bs : List ℕ} {start stop base next first least most mode p g k : ℕ
       let w = bounded (m .upper) (em ∙ m .numbers .upper-is) (m .numbers .right) not in
       (omega (arith, least-is), w .1)
 
+  -- a most that is a number
   pub upper-bounded : (most ≡ 65535 → ⊥) → upperOf most ≡ upTo most
   upper-bounded not = ap (λ (b : Bool). cond b noEnd (upTo most)) (ne-eqb most 65535 not)
 
+  -- a most that stands for no upper end
   pub upper-endless : most ≡ 65535 → upperOf most ≡ noEnd
   upper-endless is = ap (λ (b : Bool). cond b noEnd (upTo most)) (eq-eqb most 65535 is)
 
+  -- what the passes of a repeat with an upper end are asked for
   abbrev pub bounded-ask : (most ≡ 65535 → ⊥) → Repeating bs (start + repeatHead) stop least (most - least) false base next first g p
   bounded-ask not =
       record {
@@ -89,6 +95,7 @@ module _ {bs : List ℕ} {start stop base next first least most mode p g k : ℕ
       clash : false ≡ true → ⊥
       clash e = let z : _≡_ {A = ℕ} 0 1 = cc in omega arith
 
+  -- what those of one without are
   abbrev pub endless-ask : most ≡ 65535 → Repeating bs (start + repeatHead) stop least 1 true base next first g p
   endless-ask is =
       record {
@@ -110,6 +117,7 @@ module _ {bs : List ℕ} {start stop base next first least most mode p g k : ℕ
   total : repeatPlaces (m .least) (m .upper) (places (m .tree)) ≡ repeatPlaces least (upperOf most) p
   total = rw (least-is, upper-is, places-is)
 
+  -- the passes of a repeat with an upper end lay it
   pub bounded-laid : {t t' : List ℕ} (not : most ≡ 65535 → ⊥)
       → PassesLaid bs (start + repeatHead) stop least (most - least) false mode base next first g p t t'
       → Kept base (base + repeatPlaces (m .least) (m .upper) (places (m .tree))) t t'
@@ -123,6 +131,7 @@ module _ {bs : List ℕ} {start stop base next first least most mode p g k : ℕ
         (r .laid (bounded-ask not)),
   )
 
+  -- the passes of one without lay it
   pub endless-laid : {t t' : List ℕ} (is : most ≡ 65535) → PassesLaid bs (start + repeatHead) stop least 1 true mode base next first g p t t'
       → Kept base (base + repeatPlaces (m .least) (m .upper) (places (m .tree))) t t'
       × Lays t' bs (writtenOut (repeat (m .least) (m .upper) (m .mode) (m .tree)) first) base next
@@ -154,6 +163,7 @@ one-kept {base} {n} {t} {t'} some k = kept-both base (base + n) k (kept-none bas
     one-more zero some = absurd (some refl)
     one-more (suc n) some = omega arith
 
+-- a record that takes nothing is one place
 pub stop-laid : {bs : List ℕ} {at stop base next first n kind : ℕ} {t t' : List ℕ} → (n ≡ 0 → ⊥) → kind ≡ kindAt bs at → kind ≡ 0 → Put t base 8 0 0 0 t'
     → OneLaid bs at stop base next first n t t'
 stop-laid {bs} {at} {base = base} {next = next} {first = first} {t' = t'} some ek none put =
@@ -169,6 +179,7 @@ set-fits {bs} {at} m ek two =
     let v = set-view (m .tree) bs at (m .inside .stand) (sym ek ∙ two) in
     (omega (arith, v .pairs .whole, m .inside .end-is, m .inside .ends), omega (arith, v .pairs .whole, v .pairs .few, m .inside .end-is))
 
+-- a byte set is one place
 pub set-laid : {bs : List ℕ} {at stop base next first n kind : ℕ} {t t' : List ℕ} → One bs at stop base next first n → (n ≡ 0 → ⊥)
     → kind ≡ kindAt bs at → kind ≡ 2 → Put t base 6 next (at + 4) ((stop - (at + 4)) / 2) t' → OneLaid bs at stop base next first n t t'
 set-laid {bs} {at} {stop} {base} {next} {first} {t' = t'} m0 some ek two put =
@@ -205,6 +216,7 @@ group-one {bs} {at} m ek three =
       follows = omega (arith, m .room, m .places-are);
     }
 
+-- a group has its open and its close
 pub group-two : {bs : List ℕ} {at stop base next first n kind : ℕ} → One bs at stop base next first n → kind ≡ kindAt bs at → kind ≡ 3 → 2 ≤ n
 group-two {bs} {at} m ek three =
     let v = group-view (m .tree) bs at (m .inside .stand) (sym ek ∙ three) in
@@ -221,6 +233,7 @@ captures-lays t bs k e base next p ep =
     (sym ep)
     (λ a b c. (a, b, c))
 
+-- the open, what the group holds and the close lay the group
 pub group-laid : {bs : List ℕ} {at stop base next first n kind : ℕ} {t t1 t2 : List ℕ} → One bs at stop base next first n → kind ≡ kindAt bs at
     → kind ≡ 3 → HeadLaid bs (at + 4) stop 1 first 0 base (base + 1 + (n - 2)) (first + 1) (n - 2) t t1
     → Put t1 (base + 1 + (n - 2)) 2 next first 0 t2 → OneLaid bs at stop base next first n t t2
@@ -268,6 +281,7 @@ repeat-ask {bs} {at} {n = n} m some ek six =
     positive {b = zero} not e = absurd (not e)
     positive {b = suc b} not e = omega arith
 
+-- a repeat is laid by its passes
 pub repeat-laid : {bs : List ℕ} {at stop base next first n kind : ℕ} {t t' : List ℕ} → One bs at stop base next first n → (n ≡ 0 → ⊥)
     → kind ≡ kindAt bs at → kind ≡ 6 → RepeatLaid bs (at + 4) stop base next first t t' → OneLaid bs at stop base next first n t t'
 repeat-laid {bs} {at} {stop} {base} {next} {first} {n} {t = t} {t' = t'} m0 some ek six r =
@@ -280,12 +294,14 @@ repeat-laid {bs} {at} {stop} {base} {next} {first} {n} {t = t} {t' = t'} m0 some
 -- a sequence or an alternation: any other record that has places
 module _ {bs : List ℕ} {at stop base next first n kind : ℕ} (some : n ≡ 0 → ⊥) (ek : kind ≡ kindAt bs at) (k0 : kind ≡ 0 → ⊥) (k2 : kind ≡ 2 → ⊥)
     (k3 : kind ≡ 3 → ⊥) (k6 : kind ≡ 6 → ⊥) where
+  -- the members of the record
   pub row-of : (m : One bs at stop base next first n) → RowView bs at (eqb kind 5) (m .tree)
   row-of m =
       subst (λ (k : ℕ). RowView bs at (eqb k 5) (m .tree)) (sym ek)
       (row-view (m .tree) bs at (m .inside .stand) (λ e. some (m .places-are ∙ e)) (λ e. k0 (ek ∙ e)) (λ e. k2 (ek ∙ e)) (λ e. k3 (ek ∙ e))
       (λ e. k6 (ek ∙ e)))
 
+  -- what the row of them is asked for
   abbrev pub row-ask : One bs at stop base next first n → Several bs (at + 4) stop (eqb kind 5) base next first n
   row-ask m =
       let v = row-of m in
@@ -302,6 +318,7 @@ module _ {bs : List ℕ} {at stop base next first n kind : ℕ} (some : n ≡ 0 
         follows = m .follows;
       }
 
+  -- the row lays the record
   pub row-laid : {t t' : List ℕ} → SeveralLaid bs (at + 4) stop (eqb kind 5) base next first n t t' → OneLaid bs at stop base next first n t t'
   row-laid {t' = t'} r =
       record { kept = r .kept; laid = λ m. subst (λ (c : Core). Lays t' bs c base next) (sym (row-of m .written first)) (r .laid (row-ask m)) }
@@ -314,6 +331,7 @@ pub record Last (bs : List ℕ) (at stop first n : ℕ) (es : List Pattern) : Ty
   pub places-are : n ≡ places tree
   pub few : first + groups tree ≤ 10
 
+-- a record that is not the last
 pub record More (bs : List ℕ) (at stop : ℕ) (forks : Bool) (first n : ℕ) (es : List Pattern) : Type 0 where
   pub tree : Pattern
   pub second : Pattern
@@ -339,9 +357,11 @@ more-of forks (x ∷ y ∷ es) h lt p g e = record { tree = x; second = y; other
 
 -- `row`, the last record
 module _ {bs : List ℕ} {at stop base next first n end : ℕ} {forks : Bool} (ee : end ≡ bodyEnd bs at) (es : end ≡ stop) where
+  -- the record is the last
   pub last : (m : Several bs at stop forks base next first n) → Last bs at stop first n (m .records)
   last m = last-of forks (m .records) (m .stand) (m .some) (m .places-are) (m .few) (sym ee ∙ es)
 
+  -- what it is asked for
   abbrev pub last-one : Several bs at stop forks base next first n → One bs at stop base next first n
   last-one m =
       let v = last m in
@@ -354,6 +374,7 @@ module _ {bs : List ℕ} {at stop base next first n end : ℕ} {forks : Bool} (e
         follows = m .follows;
       }
 
+  -- it lays the row
   pub last-laid : {t t' : List ℕ} → OneLaid bs at stop base next first n t t' → SeveralLaid bs at stop forks base next first n t t'
   last-laid {t' = t'} o =
       record {
@@ -363,9 +384,11 @@ module _ {bs : List ℕ} {at stop base next first n end : ℕ} {forks : Bool} (e
 
 -- `row`, a record with others behind it: what it adds up to
 module _ {bs : List ℕ} {at stop base next first n end : ℕ} {forks : Bool} (ee : end ≡ bodyEnd bs at) (es : end ≡ stop → ⊥) where
+  -- the record is not the last
   pub more : (m : Several bs at stop forks base next first n) → More bs at stop forks first n (m .records)
   more m = more-of forks (m .records) (m .stand) (m .some) (m .places-are) (m .few) (λ e. es (ee ∙ e))
 
+  -- it is counted alone
   abbrev pub more-counting : Several bs at stop forks base next first n → Counting bs at end
   more-counting m =
       let v = more m in
@@ -377,6 +400,7 @@ module _ {bs : List ℕ} {at stop base next first n end : ℕ} {forks : Bool} (e
         few = omega (arith, v .few);
       }
 
+  -- it has no more places than the row
   pub more-small : (m : Several bs at stop forks base next first n) → places (more m .tree) + placesIn (more m .second ∷ more m .others) ≤ n
   more-small m = least forks (more m .tree ∷ more m .second ∷ more m .others) (more m .places-are)
     where
@@ -384,12 +408,15 @@ module _ {bs : List ℕ} {at stop base next first n end : ℕ} {forks : Bool} (e
       least false es e = omega arith
       least true es e = omega arith
 
+  -- its places
   pub more-places : {p g k : ℕ} → Counted bs at end p g k → (m : Several bs at stop forks base next first n) → p ≡ places (more m .tree)
   more-places c m = omega (arith, c .sums (more-counting m) .places-are (omega (arith, more-small m, m .small)))
 
+  -- its groups
   pub more-groups : {p g k : ℕ} → Counted bs at end p g k → (m : Several bs at stop forks base next first n) → g ≡ groups (more m .tree)
   more-groups c m = omega (arith, c .sums (more-counting m) .groups-are)
 
+  -- the groups up to the next record are few
   pub more-few : {p g k : ℕ} → Counted bs at end p g k → (m : Several bs at stop forks base next first n) → first + g ≤ 10
   more-few c m = omega (arith, more m .few, more-groups c m)
 
@@ -416,9 +443,11 @@ either-lays t bs a b base next p v ep ev =
 
 -- a record of a sequence, then the others
 module _ {bs : List ℕ} {at stop base next first n end p g k : ℕ} (ee : end ≡ bodyEnd bs at) (es : end ≡ stop → ⊥) (c : Counted bs at end p g k) where
+  -- its places and those of the others are the places of the sequence
   pub chain-sum : (m : Several bs at stop false base next first n) → n ≡ p + placesIn (more ee es m .second ∷ more ee es m .others)
   chain-sum m = omega (arith, more ee es m .places-are, more-places ee es c m)
 
+  -- what it is asked for
   abbrev pub chain-one : (v : ℕ) → v ≡ entryOf (n - p) (base + p) next → Several bs at stop false base next first n → One bs at end base v first p
   chain-one v ev m =
       let w = more ee es m in
@@ -431,6 +460,7 @@ module _ {bs : List ℕ} {at stop base next first n end p g k : ℕ} (ee : end �
         follows = omega (arith, ev, entry-small (n - p) (base + p) next {most = 510} (omega (arith, chain-sum m, m .room)) (m .follows));
       }
 
+  -- what the others are asked for
   abbrev pub chain-rest : Several bs at stop false base next first n → Several bs end stop false (base + p) next (first + g) (n - p)
   chain-rest m =
       let w = more ee es m in
@@ -447,6 +477,7 @@ module _ {bs : List ℕ} {at stop base next first n end p g k : ℕ} (ee : end �
         follows = m .follows;
       }
 
+  -- both lay the sequence
   pub chain-laid : {v : ℕ} {t t1 t2 : List ℕ} → v ≡ entryOf (n - p) (base + p) next → Several bs at stop false base next first n
       → OneLaid bs at end base v first p t t1 → SeveralLaid bs end stop false (base + p) next (first + g) (n - p) t1 t2
       → SeveralLaid bs at stop false base next first n t t2
@@ -468,9 +499,11 @@ module _ {bs : List ℕ} {at stop base next first n end p g k : ℕ} (ee : end �
 
 -- a record of an alternation behind its fork, then the others
 module _ {bs : List ℕ} {at stop base next first n end p g k : ℕ} (ee : end ≡ bodyEnd bs at) (es : end ≡ stop → ⊥) (c : Counted bs at end p g k) where
+  -- the fork, its places and those of the others are the places of the alternation
   pub fork-sum : (m : Several bs at stop true base next first n) → n ≡ 1 + p + rowPlaces true (more ee es m .second ∷ more ee es m .others)
   fork-sum m = omega (arith, more ee es m .places-are, more-places ee es c m)
 
+  -- what it is asked for
   abbrev pub fork-one : Several bs at stop true base next first n → One bs at end (base + 1) next first p
   fork-one m =
       let w = more ee es m in
@@ -483,6 +516,7 @@ module _ {bs : List ℕ} {at stop base next first n end p g k : ℕ} (ee : end �
         follows = m .follows;
       }
 
+  -- what the others are asked for
   abbrev pub fork-rest : Several bs at stop true base next first n → Several bs end stop true (base + 1 + p) next (first + g) (n - 1 - p)
   fork-rest m =
       let w = more ee es m in
@@ -499,6 +533,7 @@ module _ {bs : List ℕ} {at stop base next first n end p g k : ℕ} (ee : end �
         follows = m .follows;
       }
 
+  -- the fork and both lay the alternation
   pub fork-laid : {u v : ℕ} {t t1 t2 t3 : List ℕ} → u ≡ entryOf p (base + 1) next → v ≡ entryOf (n - 1 - p) (base + 1 + p) next
       → Several bs at stop true base next first n → Put t base 0 u v 0 t1 → OneLaid bs at end (base + 1) next first p t1 t2
       → SeveralLaid bs end stop true (base + 1 + p) next (first + g) (n - 1 - p) t2 t3 → SeveralLaid bs at stop true base next first n t t3

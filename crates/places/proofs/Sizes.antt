@@ -14,10 +14,12 @@ use Rattle.places.specs.Asked.{optionalCore, passCore, passPlaces}
 use Rattle.paper.proofs.MemberList.{listOf}
 use Rattle.paper.proofs.Sizes.{size-written}
 
+-- the places of passes that must be made, and of what comes then
 pub musts-size : (m first n : ℕ) (e next : Core) → size (musts m first n e next) ≡ m * (1 + size e) + size next
 musts-size zero first n e next = omega (arith, zero-mul (1 + size e))
 musts-size (suc m) first n e next = omega (arith, musts-size m first n e next, suc-mul m (1 + size e))
 
+-- the places of optional passes
 pub maybes-size : (m : ℕ) (mode : Mode) (first n : ℕ) (e : Core) → size (maybes m mode first n e) ≡ m * (3 + size e)
 maybes-size zero mode first n e = omega (arith, zero-mul (3 + size e))
 maybes-size (suc m) mode first n e = omega (arith, maybes-size m mode first n e, suc-mul m (3 + size e))
@@ -28,6 +30,7 @@ row-chained (two a b) first = refl
 row-chained (more a (two b c)) first = refl
 row-chained (more a (more b ms)) first = ap (chain (writtenOut a first)) (row-chained (more b ms) (first + groups a))
 
+-- and as the alternation of them
 pub row-forked : (ms : Members) (first : ℕ) → rowCore true (listOf ms) first ≡ forked ms first
 row-forked (two a b) first = refl
 row-forked (more a (two b c)) first = refl

@@ -15,17 +15,20 @@ use Rattle.places.specs.Standing.{Stands, Row, Pairs, Passes, groupsIn, 
 use Rattle.places.proofs.Adding.{members-row, members-places, members-groups, members-count, members-two}
 use Rattle.places.proofs.Sizes.{row-chained, row-forked}
 
+-- a byte set, and its pairs
 pub record SetView (bs : List ℕ) (at : ℕ) (e : Pattern) : Type 0 where
   pub ranges : List Range
   pub is : e ≡ bytes ranges
   pub pairs : Pairs bs at ranges
 
+-- a group, and the record inside
 pub record GroupView (bs : List ℕ) (at : ℕ) (e : Pattern) : Type 0 where
   pub inner : Pattern
   pub is : e ≡ group inner
   pub stand : Stands bs (bodyStart at) inner
   pub end-is : bodyEnd bs (bodyStart at) ≡ bodyEnd bs at
 
+-- a repeat, its numbers and the record inside
 pub record RepeatView (bs : List ℕ) (at : ℕ) (e : Pattern) : Type 0 where
   pub least : ℕ
   pub upper : Upper
@@ -36,6 +39,7 @@ pub record RepeatView (bs : List ℕ) (at : ℕ) (e : Pattern) : Type 0 where
   pub stand : Stands bs (bodyStart at + repeatHead) inner
   pub end-is : bodyEnd bs (bodyStart at + repeatHead) ≡ bodyEnd bs at
 
+-- a sequence or an alternation, and its members as a row
 pub record RowView (bs : List ℕ) (at : ℕ) (forks : Bool) (e : Pattern) : Type 0 where
   pub records : List Pattern
   pub written : (first : ℕ) → writtenOut e first ≡ rowCore forks records first
@@ -44,6 +48,7 @@ pub record RowView (bs : List ℕ) (at : ℕ) (forks : Bool) (e : Pattern) : Typ
   pub places-are : places e ≡ rowPlaces forks records
   pub groups-are : groups e ≡ groupsIn records
 
+-- kind 0
 pub nothing-view : (e : Pattern) (bs : List ℕ) (at : ℕ) → Stands bs at e → kindAt bs at ≡ 0 → e ≡ nothing
 nothing-view nothing bs at h k = refl
 nothing-view empty bs at h k = absurd (omega (arith, h))
@@ -53,6 +58,7 @@ nothing-view (sequence ms) bs at h k = absurd (omega (arith, h .0))
 nothing-view (alternation ms) bs at h k = absurd (omega (arith, h .0))
 nothing-view (repeat least upper mode e) bs at h k = absurd (omega (arith, h .0))
 
+-- kind 2
 pub set-view : (e : Pattern) (bs : List ℕ) (at : ℕ) → Stands bs at e → kindAt bs at ≡ 2 → SetView bs at e
 set-view nothing bs at h k = absurd (omega (arith, h))
 set-view empty bs at h k = absurd (omega (arith, h))
@@ -62,6 +68,7 @@ set-view (sequence ms) bs at h k = absurd (omega (arith, h .0))
 set-view (alternation ms) bs at h k = absurd (omega (arith, h .0))
 set-view (repeat least upper mode e) bs at h k = absurd (omega (arith, h .0))
 
+-- kind 3
 pub group-view : (e : Pattern) (bs : List ℕ) (at : ℕ) → Stands bs at e → kindAt bs at ≡ 3 → GroupView bs at e
 group-view nothing bs at h k = absurd (omega (arith, h))
 group-view empty bs at h k = absurd (omega (arith, h))
@@ -71,6 +78,7 @@ group-view (sequence ms) bs at h k = absurd (omega (arith, h .0))
 group-view (alternation ms) bs at h k = absurd (omega (arith, h .0))
 group-view (repeat least upper mode e) bs at h k = absurd (omega (arith, h .0))
 
+-- kind 6
 pub repeat-view : (e : Pattern) (bs : List ℕ) (at : ℕ) → Stands bs at e → kindAt bs at ≡ 6 → RepeatView bs at e
 repeat-view nothing bs at h k = absurd (omega (arith, h))
 repeat-view empty bs at h k = absurd (omega (arith, h))

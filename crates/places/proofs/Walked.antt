@@ -180,6 +180,7 @@ pub record Whole (bs : List ℕ) (e : Pattern) : Type 0 where
   pub few-groups : groups e ≤ patternGroups
   pub few-places : allPlaces e ≤ patternPlaces
 
+-- what checking accepts stands, and keeps the limits
 pub pattern-stands : (bs : List ℕ) (e : Pattern) → patternOf bs ≡ accepted e → Whole bs e
 pattern-stands bs e accepts =
     let walk = walkRecord patternLevels bs 0 (length bs) 0 in

@@ -3,14 +3,14 @@ use pattern::Kind;
 use pattern::Pattern;
 use records::number_at;
 ghost use mathlib.Core.Path.{_≡_};
-ghost use mathlib.Core.Bool.{cond};
+ghost use mathlib.Core.Bool.{true, false, cond};
 ghost use Prim.Native.Nat.{_+_, _-_, _*_, _≤_, _<_};
 ghost use lib.ListN.{length};
 ghost use Rattle.paper.specs.Limits.{patternBytes, rowCount};
 ghost use Rattle.paper.specs.Pattern.{repeatPlaces};
 ghost use Rattle.paper.specs.Check.{upperOf};
 ghost use Rattle.places.specs.Laid.{entryOf};
-ghost use Rattle.places.specs.Asked.{Fitting, Put, Forked, Capped, insideStart, CountsRight, ownPlaces, OwnPlaces, ownGroups, Counting, Counted, One, OneLaid, Head, HeadLaid, Several, SeveralLaid, Repeating, PassesLaid, Repeat, RepeatLaid, Star, StarLaid, tableRoom, mostCounted, mostOwn};
+ghost use Rattle.places.specs.Asked.{Fitting, Put, Forked, Capped, insideStart, CountsRight, ownPlaces, OwnPlaces, ownGroups, Counting, Counted, One, OneLaid, Head, HeadLaid, Several, SeveralLaid, Ends, Repeating, PassesLaid, Repeat, RepeatLaid, Star, StarLaid, tableRoom, mostCounted, mostOwn};
 ghost use Rattle.places.specs.Built.{Accepted, BuiltMatch, BuiltSearch};
 
 // The numbers of the kinds of place.
@@ -184,130 +184,83 @@ fn pass_end(endless: bool, may: usize, base: usize, after: usize, next: usize) -
     }
 }
 
+// Records that are laid: where they stand and end, the number of their first group, and how many places they have.
+struct Part {
+    at: usize,
+    stop: usize,
+    first: usize,
+    places: usize,
+}
+
 // A place that stands before one expression, and that expression behind it: an open, or a begin of a pass.
 fn headed(
     pattern: &[u8],
     table: &mut [u16],
-    at: usize,
-    stop: usize,
+    part: Part,
     kind: u16,
     a: usize,
     n: usize,
     base: usize,
     next: usize,
-    first: usize,
-    places: usize,
 )
-    requires { ⌜ One (now pattern) at stop (base + 1) next first places ⌝ }
+    requires { ⌜ One (now pattern) (part .at) (part .stop) (base + 1) next (part .first) (part .places) ⌝ }
     requires { ⌜ Head kind a n ⌝ }
     requires { ⌜ tableRoom ≤ length (now table) ⌝ }
-    ensures { λ _. ⌜ HeadLaid (now (pattern .entry)) at stop kind a n base next first places (now (table .entry)) (now (table .exit)) ⌝ }
+    ensures { λ _. ⌜ HeadLaid (now (pattern .entry)) (part .at) (part .stop) kind a n base next (part .first) (part .places) (now (table .entry)) (now (table .exit)) ⌝ }
 {
+    let places = part.places;
     put(table, base, kind, entered(places, base + 1, next), a, n);
     if places != 0 {
-        row(
-            pattern,
-            table,
-            at,
-            stop,
-            false,
-            base + 1,
-            next,
-            first,
-            places,
-        );
+        row(pattern, table, part, false, base + 1, next);
     }
+}
+
+// How the passes of a repeat are made: the groups that each clears, whether there is no upper end, and the mode.
+struct Pass {
+    groups: usize,
+    endless: bool,
+    mode: usize,
 }
 
 // The passes of a repeat: those that must be made, then the optional ones; without an upper end there is one of these, whose end leads back.
 fn passes(
     pattern: &[u8],
     table: &mut [u16],
-    at: usize,
-    stop: usize,
+    part: Part,
+    pass: Pass,
     must: usize,
     may: usize,
-    endless: bool,
-    mode: usize,
     base: usize,
     next: usize,
-    first: usize,
-    groups: usize,
-    places: usize,
 )
-    requires { ⌜ Repeating (now pattern) at stop must may endless base next first groups places ⌝ }
+    requires { ⌜ Repeating (now pattern) (part .at) (part .stop) must may (pass .endless) base next (part .first) (pass .groups) (part .places) ⌝ }
     requires { ⌜ tableRoom ≤ length (now table) ⌝ }
-    ensures { λ _. ⌜ PassesLaid (now (pattern .entry)) at stop must may endless mode base next first groups places (now (table .entry)) (now (table .exit)) ⌝ }
+    ensures { λ _. ⌜ PassesLaid (now (pattern .entry)) (part .at) (part .stop) must may (pass .endless) (pass .mode) base next (part .first) (pass .groups) (part .places) (now (table .entry)) (now (table .exit)) ⌝ }
 {
+    let first = part.first;
+    let groups = pass.groups;
     if must != 0 {
-        let after = base + 1 + places;
-        headed(
-            pattern,
-            table,
-            at,
-            stop,
-            BEGIN,
-            first,
-            groups,
-            base,
-            entered(must - 1 + may, after, next),
-            first,
-            places,
-        );
-        passes(
-            pattern,
-            table,
-            at,
-            stop,
-            must - 1,
-            may,
-            endless,
-            mode,
-            after,
-            next,
-            first,
-            groups,
-            places,
-        );
+        let after = base + 1 + part.places;
+        let out = entered(must - 1 + may, after, next);
+        headed(pattern, table, part, BEGIN, first, groups, base, out);
+        passes(pattern, table, part, pass, must - 1, may, after, next);
     } else if may != 0 {
-        let end = base + 1 + 1 + places;
-        pass_fork(table, base, mode, base + 1, next);
+        let begin = base + 1;
+        let end = begin + 1 + part.places;
+        let out = pass_end(pass.endless, may, base, end + 1, next);
+        pass_fork(table, base, pass.mode, begin, next);
         headed(
             pattern,
             table,
-            at,
-            stop,
+            part,
             BEGIN_OPTIONAL,
             first,
             groups,
-            base + 1,
+            begin,
             end,
-            first,
-            places,
         );
-        put(
-            table,
-            end,
-            END,
-            pass_end(endless, may, base, end + 1, next),
-            0,
-            0,
-        );
-        passes(
-            pattern,
-            table,
-            at,
-            stop,
-            0,
-            may - 1,
-            endless,
-            mode,
-            end + 1,
-            next,
-            first,
-            groups,
-            places,
-        );
+        put(table, end, END, out, 0, 0);
+        passes(pattern, table, part, pass, 0, may - 1, end + 1, next);
     }
 }
 
@@ -330,56 +283,41 @@ fn repeated(
     let most = number_at(pattern, start + 2);
     let mode = number_at(pattern, start + 4);
     let inside = count(pattern, at, stop);
+    let places = inside.places;
+    let groups = inside.groups;
+    let part = Part {
+        at,
+        stop,
+        first,
+        places,
+    };
     if most == Pattern::NO_UPPER_END {
-        passes(
-            pattern,
-            table,
-            at,
-            stop,
-            least,
-            1,
-            true,
+        let pass = Pass {
+            groups,
+            endless: true,
             mode,
-            base,
-            next,
-            first,
-            inside.groups,
-            inside.places,
-        );
+        };
+        passes(pattern, table, part, pass, least, 1, base, next);
     } else {
-        passes(
-            pattern,
-            table,
-            at,
-            stop,
-            least,
-            most - least,
-            false,
+        let pass = Pass {
+            groups,
+            endless: false,
             mode,
-            base,
-            next,
-            first,
-            inside.groups,
-            inside.places,
-        );
+        };
+        passes(pattern, table, part, pass, least, most - least, base, next);
     }
 }
 
-// The places of one record that has some.
-fn one(
-    pattern: &[u8],
-    table: &mut [u16],
-    at: usize,
-    stop: usize,
-    base: usize,
-    next: usize,
-    first: usize,
-    places: usize,
-)
-    requires { ⌜ One (now pattern) at stop base next first places ⌝ }
+// The places of one record.
+fn one(pattern: &[u8], table: &mut [u16], part: Part, base: usize, next: usize)
+    requires { ⌜ One (now pattern) (part .at) (part .stop) base next (part .first) (part .places) ⌝ }
     requires { ⌜ tableRoom ≤ length (now table) ⌝ }
-    ensures { λ _. ⌜ OneLaid (now (pattern .entry)) at stop base next first places (now (table .entry)) (now (table .exit)) ⌝ }
+    ensures { λ _. ⌜ OneLaid (now (pattern .entry)) (part .at) (part .stop) base next (part .first) (part .places) (now (table .entry)) (now (table .exit)) ⌝ }
 {
+    let at = part.at;
+    let stop = part.stop;
+    let first = part.first;
+    let places = part.places;
     let kind = number_at(pattern, at + 2);
     let start = at + 4;
     if places == 0 {} else if kind == Kind::NOTHING {
@@ -388,107 +326,109 @@ fn one(
         put(table, base, SET, next, start, (stop - start) / 2);
     } else if kind == Kind::GROUP {
         let close = base + 1 + (places - 2);
-        headed(
-            pattern,
-            table,
-            start,
+        let inner = Part {
+            at: start,
             stop,
-            OPEN,
-            first,
-            0,
-            base,
-            close,
-            first + 1,
-            places - 2,
-        );
+            first: first + 1,
+            places: places - 2,
+        };
+        headed(pattern, table, inner, OPEN, first, 0, base, close);
         put(table, close, CLOSE, next, first, 0);
     } else if kind == Kind::REPEAT {
         repeated(pattern, table, start, stop, base, next, first);
     } else {
-        row(
-            pattern,
-            table,
-            start,
+        let inner = Part {
+            at: start,
             stop,
-            kind == Kind::ALTERNATION,
-            base,
-            next,
             first,
             places,
-        );
+        };
+        row(pattern, table, inner, kind == Kind::ALTERNATION, base, next);
     }
 }
 
-// The places of records that stand one after another: of a sequence each leads to the next, of an alternation a fork stands before each but the last.
-fn row(
-    pattern: &[u8],
-    table: &mut [u16],
-    at: usize,
-    stop: usize,
-    forks: bool,
-    base: usize,
-    next: usize,
-    first: usize,
-    places: usize,
-)
-    requires { ⌜ Several (now pattern) at stop forks base next first places ⌝ }
+// The places of records that stand one after another, as a sequence or with the forks of an alternation.
+fn row(pattern: &[u8], table: &mut [u16], part: Part, forks: bool, base: usize, next: usize)
+    requires { ⌜ Several (now pattern) (part .at) (part .stop) forks base next (part .first) (part .places) ⌝ }
     requires { ⌜ tableRoom ≤ length (now table) ⌝ }
-    ensures { λ _. ⌜ SeveralLaid (now (pattern .entry)) at stop forks base next first places (now (table .entry)) (now (table .exit)) ⌝ }
+    ensures { λ _. ⌜ SeveralLaid (now (pattern .entry)) (part .at) (part .stop) forks base next (part .first) (part .places) (now (table .entry)) (now (table .exit)) ⌝ }
 {
+    let at = part.at;
+    let stop = part.stop;
     let end = at + 4 + number_at(pattern, at);
     if end == stop {
-        one(pattern, table, at, stop, base, next, first, places);
+        one(pattern, table, part, base, next);
+    } else if forks {
+        forked(pattern, table, part, end, base, next);
     } else {
-        let own = count(pattern, at, end);
-        if forks {
-            let second = base + 1 + own.places;
-            let rest = places - 1 - own.places;
-            put(
-                table,
-                base,
-                FORK,
-                entered(own.places, base + 1, next),
-                entered(rest, second, next),
-                0,
-            );
-            one(pattern, table, at, end, base + 1, next, first, own.places);
-            row(
-                pattern,
-                table,
-                end,
-                stop,
-                true,
-                second,
-                next,
-                first + own.groups,
-                rest,
-            );
-        } else {
-            let second = base + own.places;
-            let rest = places - own.places;
-            one(
-                pattern,
-                table,
-                at,
-                end,
-                base,
-                entered(rest, second, next),
-                first,
-                own.places,
-            );
-            row(
-                pattern,
-                table,
-                end,
-                stop,
-                false,
-                second,
-                next,
-                first + own.groups,
-                rest,
-            );
-        }
+        chained(pattern, table, part, end, base, next);
     }
+}
+
+// A record of an alternation that is not the last, behind its fork, and then the others.
+fn forked(pattern: &[u8], table: &mut [u16], part: Part, end: usize, base: usize, next: usize)
+    requires { ⌜ Several (now pattern) (part .at) (part .stop) true base next (part .first) (part .places) ⌝ }
+    requires { ⌜ Ends (now pattern) (part .at) (part .stop) end ⌝ }
+    requires { ⌜ tableRoom ≤ length (now table) ⌝ }
+    ensures { λ _. ⌜ SeveralLaid (now (pattern .entry)) (part .at) (part .stop) true base next (part .first) (part .places) (now (table .entry)) (now (table .exit)) ⌝ }
+{
+    let at = part.at;
+    let stop = part.stop;
+    let first = part.first;
+    let places = part.places;
+    let own = count(pattern, at, end);
+    let mine = own.places;
+    let second = base + 1 + mine;
+    let rest = places - 1 - mine;
+    let preferred = entered(mine, base + 1, next);
+    let other = entered(rest, second, next);
+    let here = Part {
+        at,
+        stop: end,
+        first,
+        places: mine,
+    };
+    let behind = Part {
+        at: end,
+        stop,
+        first: first + own.groups,
+        places: rest,
+    };
+    put(table, base, FORK, preferred, other, 0);
+    one(pattern, table, here, base + 1, next);
+    row(pattern, table, behind, true, second, next);
+}
+
+// A record of a sequence that is not the last, and then the others.
+fn chained(pattern: &[u8], table: &mut [u16], part: Part, end: usize, base: usize, next: usize)
+    requires { ⌜ Several (now pattern) (part .at) (part .stop) false base next (part .first) (part .places) ⌝ }
+    requires { ⌜ Ends (now pattern) (part .at) (part .stop) end ⌝ }
+    requires { ⌜ tableRoom ≤ length (now table) ⌝ }
+    ensures { λ _. ⌜ SeveralLaid (now (pattern .entry)) (part .at) (part .stop) false base next (part .first) (part .places) (now (table .entry)) (now (table .exit)) ⌝ }
+{
+    let at = part.at;
+    let stop = part.stop;
+    let first = part.first;
+    let places = part.places;
+    let own = count(pattern, at, end);
+    let mine = own.places;
+    let second = base + mine;
+    let rest = places - mine;
+    let out = entered(rest, second, next);
+    let here = Part {
+        at,
+        stop: end,
+        first,
+        places: mine,
+    };
+    let behind = Part {
+        at: end,
+        stop,
+        first: first + own.groups,
+        places: rest,
+    };
+    one(pattern, table, here, base, out);
+    row(pattern, table, behind, false, second, next);
 }
 
 // The four places of a repeat without an upper end over any byte, as a search has before and behind its pattern.
@@ -513,7 +453,13 @@ pub fn build_match(pattern: &[u8], table: &mut [u16]) -> usize
     let stop = pattern.len();
     let all = count(pattern, 0, stop);
     let end = all.places;
-    one(pattern, table, 0, stop, 0, end, 1, end);
+    let part = Part {
+        at: 0,
+        stop,
+        first: 1,
+        places: end,
+    };
+    one(pattern, table, part, 0, end);
     put(table, end, ACCEPT, 0, 0, 0);
     end + 1
 }
@@ -530,7 +476,13 @@ pub fn build_search(pattern: &[u8], table: &mut [u16]) -> usize
     let close = 5 + places;
     let second = close + 1;
     any_star(table, 0, Pattern::LAZY, 4, 0);
-    headed(pattern, table, 0, stop, OPEN, 0, 0, 4, close, 1, places);
+    let part = Part {
+        at: 0,
+        stop,
+        first: 1,
+        places,
+    };
+    headed(pattern, table, part, OPEN, 0, 0, 4, close);
     put(table, close, CLOSE, second, 0, 0);
     any_star(table, second, Pattern::GREEDY, second + 4, all.groups + 1);
     put(table, second + 4, ACCEPT, 0, 0, 0);

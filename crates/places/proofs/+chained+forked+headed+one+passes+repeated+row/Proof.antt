@@ -9,44 +9,68 @@ use Rattle.places.proofs.Building.{single, head-fits, head-row, head-al
 use Rattle.places.proofs.Records.{repeat-counting, endless-ask, bounded-counts, bounded-ask, endless-laid, bounded-laid, nothing-to-lay, stop-laid, set-laid, group-one, group-two, group-laid, repeat-ask, repeat-laid, row-ask, row-laid, row-header, last-one, last-laid, more-counting, more-few, fork-sum, fork-one, fork-rest, fork-laid, chain-sum, chain-one, chain-rest, chain-laid}
 use borrow.Fn.Kinds.{In}
 use borrow.Fn.PlainCycle.{Measures, is, falls, and}
+use Rattle.places.proofs.chained.Reads as chained
+use Rattle.places.proofs.chained.Kinds as chained-kinds
+use Rattle.places.proofs.+chained+forked+headed+one+passes+repeated+row.Lts-chained as chained-lts
+use Rattle.places.proofs.forked.Reads as forked
+use Rattle.places.proofs.forked.Kinds as forked-kinds
+use Rattle.places.proofs.+chained+forked+headed+one+passes+repeated+row.Lts-forked as forked-lts
 use Rattle.places.proofs.headed.Reads as headed
 use Rattle.places.proofs.headed.Kinds as headed-kinds
-use Rattle.places.proofs.+headed+one+passes+repeated+row.Lts-headed as headed-lts
+use Rattle.places.proofs.+chained+forked+headed+one+passes+repeated+row.Lts-headed as headed-lts
 use Rattle.places.proofs.one.Reads as one
 use Rattle.places.proofs.one.Kinds as one-kinds
-use Rattle.places.proofs.+headed+one+passes+repeated+row.Lts-one as one-lts
+use Rattle.places.proofs.+chained+forked+headed+one+passes+repeated+row.Lts-one as one-lts
 use Rattle.places.proofs.passes.Reads as passes
 use Rattle.places.proofs.passes.Kinds as passes-kinds
-use Rattle.places.proofs.+headed+one+passes+repeated+row.Lts-passes as passes-lts
+use Rattle.places.proofs.+chained+forked+headed+one+passes+repeated+row.Lts-passes as passes-lts
 use Rattle.places.proofs.repeated.Reads as repeated
 use Rattle.places.proofs.repeated.Kinds as repeated-kinds
-use Rattle.places.proofs.+headed+one+passes+repeated+row.Lts-repeated as repeated-lts
+use Rattle.places.proofs.+chained+forked+headed+one+passes+repeated+row.Lts-repeated as repeated-lts
 use Rattle.places.proofs.row.Reads as row
 use Rattle.places.proofs.row.Kinds as row-kinds
-use Rattle.places.proofs.+headed+one+passes+repeated+row.Lts-row as row-lts
+use Rattle.places.proofs.+chained+forked+headed+one+passes+repeated+row.Lts-row as row-lts
 use Rattle.places.proofs.count.Reads as count-reads
 use Rattle.places.proofs.entered.Reads as entered-reads
 use Rattle.places.proofs.pass_end.Reads as pass-end-reads
 use Rattle.places.proofs.pass_fork.Reads as pass-fork-reads
 use Rattle.places.proofs.put.Reads as put-reads
 use Rattle.records.proofs.number_at.Reads as number-at-reads
-use Rattle.places.proofs.+headed+one+passes+repeated+row.{statement}
-use Rattle.places.proofs.+headed+one+passes+repeated+row.Tie.{close}
+use Rattle.places.proofs.+chained+forked+headed+one+passes+repeated+row.{statement}
+use Rattle.places.proofs.+chained+forked+headed+one+passes+repeated+row.Tie.{close}
+
+abbrev μ-chained : Measures 2 chained-kinds.ps ℕ
+μ-chained κs a = 1024 * (a .1 .1 .0 .stop - a .1 .1 .0 .at) + 1
+
+abbrev μ-forked : Measures 2 forked-kinds.ps ℕ
+μ-forked κs a = 1024 * (a .1 .1 .0 .stop - a .1 .1 .0 .at) + 1
 
 abbrev μ-headed : Measures 2 headed-kinds.ps ℕ
-μ-headed κs a = 1024 * (a .1 .1 .1 .0 - a .1 .1 .0) + 2
+μ-headed κs a = 1024 * (a .1 .1 .0 .stop - a .1 .1 .0 .at) + 3
 
 abbrev μ-one : Measures 2 one-kinds.ps ℕ
-μ-one κs a = 1024 * (a .1 .1 .1 .0 - a .1 .1 .0)
+μ-one κs a = 1024 * (a .1 .1 .0 .stop - a .1 .1 .0 .at)
 
 abbrev μ-passes : Measures 2 passes-kinds.ps ℕ
-μ-passes κs a = 1024 * (a .1 .1 .1 .0 - a .1 .1 .0) + 3 + a .1 .1 .1 .1 .0 + a .1 .1 .1 .1 .1 .0
+μ-passes κs a = 1024 * (a .1 .1 .0 .stop - a .1 .1 .0 .at) + 4 + a .1 .1 .1 .1 .0 + a .1 .1 .1 .1 .1 .0
 
 abbrev μ-repeated : Measures 2 repeated-kinds.ps ℕ
 μ-repeated κs a = 1024 * (a .1 .1 .1 .0 - a .1 .1 .0) + 1000
 
 abbrev μ-row : Measures 2 row-kinds.ps ℕ
-μ-row κs a = 1024 * (a .1 .1 .1 .0 - a .1 .1 .0) + 1
+μ-row κs a = 1024 * (a .1 .1 .0 .stop - a .1 .1 .0 .at) + 2
+
+abbrev chained-at : ℕ → In 2 chained-kinds.ps
+chained-at t = and 2 chained-kinds.ps (is 2 chained-kinds.ps μ-chained t) chained.Pre
+
+abbrev chained-below : ℕ → In 2 chained-kinds.ps
+chained-below t = and 2 chained-kinds.ps (falls 2 chained-kinds.ps _<_ μ-chained t) chained.Pre
+
+abbrev forked-at : ℕ → In 2 forked-kinds.ps
+forked-at t = and 2 forked-kinds.ps (is 2 forked-kinds.ps μ-forked t) forked.Pre
+
+abbrev forked-below : ℕ → In 2 forked-kinds.ps
+forked-below t = and 2 forked-kinds.ps (falls 2 forked-kinds.ps _<_ μ-forked t) forked.Pre
 
 abbrev headed-at : ℕ → In 2 headed-kinds.ps
 headed-at t = and 2 headed-kinds.ps (is 2 headed-kinds.ps μ-headed t) headed.Pre
@@ -78,6 +102,160 @@ row-at t = and 2 row-kinds.ps (is 2 row-kinds.ps μ-row t) row.Pre
 
 abbrev row-below : ℕ → In 2 row-kinds.ps
 row-below t = and 2 row-kinds.ps (falls 2 row-kinds.ps _<_ μ-row t) row.Pre
+
+abbrev chained-calls : ℕ → chained-lts.Claims
+chained-calls t = (count-reads.Asked, count-reads.Learnt, entered-reads.Asked, entered-reads.Learnt, one-below t, one.Post, row-below t, row.Post)
+
+chained-count-requires : (t : ℕ) → chained-lts.Need-count-requires (chained-calls t) (chained-at t) chained.Post
+chained-count-requires t c κs =
+    let the-pre = c .before .before .pre in
+    more-counting (the-pre .1 .1 .0 .is) (the-pre .1 .1 .0 .not-last) (the-pre .1 .0)
+
+chained-add-second : (t : ℕ) → chained-lts.Need-add-second (chained-calls t) (chained-at t) chained.Post
+chained-add-second t c =
+    let the-pre = c .before .before .before .pre in
+    let the-count = c .count in
+    omega (arith, (the-pre .1 .0) .room, chain-sum (the-pre .1 .1 .0 .is) (the-pre .1 .1 .0 .not-last) (the-count .ensures) (the-pre .1 .0))
+
+chained-sub-rest : (t : ℕ) → chained-lts.Need-sub-rest (chained-calls t) (chained-at t) chained.Post
+chained-sub-rest t c =
+    let the-pre = c .before .before .before .pre in
+    let the-count = c .count in
+    omega (arith, chain-sum (the-pre .1 .1 .0 .is) (the-pre .1 .1 .0 .not-last) (the-count .ensures) (the-pre .1 .0))
+
+chained-entered-requires : (t : ℕ) → chained-lts.Need-entered-requires (chained-calls t) (chained-at t) chained.Post
+chained-entered-requires t c κs = search needs
+
+chained-add-t18 : (t : ℕ) → chained-lts.Need-add-t18 (chained-calls t) (chained-at t) chained.Post
+chained-add-t18 t c =
+    let the-pre = c .before .before .before .before .before .pre in
+    let the-count = c .before .before .count in
+    omega (arith, more-few (the-pre .1 .1 .0 .is) (the-pre .1 .1 .0 .not-last) (the-count .ensures) (the-pre .1 .0))
+
+chained-one-requires : (t : ℕ) → chained-lts.Need-one-requires (chained-calls t) (chained-at t) chained.Post
+chained-one-requires t c κs =
+    let the-pre = c .before .before .before .before .before .before .pre in
+    let the-count = c .before .before .before .count in
+    let the-entered = c .before .before .entered in
+    (omega (arith, the-pre .0, row-header (the-pre .1 .0), the-pre .1 .1 .0 .is), (chain-one (the-pre .1 .1 .0 .is) (the-pre .1 .1 .0 .not-last) (the-count .ensures) (the-entered .result) (the-entered .ensures) (the-pre .1 .0), (the-pre .1 .1 .1)))
+
+chained-row-requires : (t : ℕ) → chained-lts.Need-row-requires (chained-calls t) (chained-at t) chained.Post
+chained-row-requires t c κs =
+    let the-pre = c .before .before .before .before .before .before .before .before .before .before .pre in
+    let the-count = c .before .before .before .before .before .before .before .count in
+    let the-one = c .before .before .before .one in
+    (omega (arith, the-pre .0, row-header (the-pre .1 .0), the-pre .1 .1 .0 .is), (chain-rest (the-pre .1 .1 .0 .is) (the-pre .1 .1 .0 .not-last) (the-count .ensures) (the-pre .1 .0), omega (arith, the-one .ensures .kept .same-length, (the-pre .1 .1 .1))))
+
+chained-same-length : (t : ℕ) → chained-lts.Need-same-length (chained-calls t) (chained-at t) chained.Post
+chained-same-length t c =
+    let the-row = c .before .before .row in
+    let the-one = c .before .before .before .before .before .before .one in
+    the-row .ensures .kept .same-length ∙ the-one .ensures .kept .same-length
+
+chained-returns : (t : ℕ) → chained-lts.Need-returns (chained-calls t) (chained-at t) chained.Post
+chained-returns t c =
+    let the-pre = c .before .before .before .before .before .before .before .before .before .before .before .before .before .pre in
+    let the-count = c .before .before .before .before .before .before .before .before .before .before .count in
+    let the-entered = c .before .before .before .before .before .before .before .before .before .entered in
+    let the-one = c .before .before .before .before .before .before .one in
+    let the-row = c .before .before .row in
+    chain-laid (the-pre .1 .1 .0 .is) (the-pre .1 .1 .0 .not-last) (the-count .ensures) (the-entered .ensures) (the-pre .1 .0) (the-one .ensures) (the-row .ensures)
+
+abbrev forked-calls : ℕ → forked-lts.Claims
+forked-calls t = (count-reads.Asked, count-reads.Learnt, entered-reads.Asked, entered-reads.Learnt, put-reads.Asked, put-reads.Learnt, one-below t, one.Post, row-below t, row.Post)
+
+forked-count-requires : (t : ℕ) → forked-lts.Need-count-requires (forked-calls t) (forked-at t) forked.Post
+forked-count-requires t c κs =
+    let the-pre = c .before .before .pre in
+    more-counting (the-pre .1 .1 .0 .is) (the-pre .1 .1 .0 .not-last) (the-pre .1 .0)
+
+forked-add-second : (t : ℕ) → forked-lts.Need-add-second (forked-calls t) (forked-at t) forked.Post
+forked-add-second t c =
+    let the-pre = c .before .before .before .pre in
+    let the-count = c .count in
+    omega (arith, (the-pre .1 .0) .room, fork-sum (the-pre .1 .1 .0 .is) (the-pre .1 .1 .0 .not-last) (the-count .ensures) (the-pre .1 .0))
+
+forked-add-second-2 : (t : ℕ) → forked-lts.Need-add-second-2 (forked-calls t) (forked-at t) forked.Post
+forked-add-second-2 t c =
+    let the-pre = c .before .before .before .pre in
+    let the-count = c .count in
+    omega (arith, (the-pre .1 .0) .room, fork-sum (the-pre .1 .1 .0 .is) (the-pre .1 .1 .0 .not-last) (the-count .ensures) (the-pre .1 .0))
+
+forked-sub-rest : (t : ℕ) → forked-lts.Need-sub-rest (forked-calls t) (forked-at t) forked.Post
+forked-sub-rest t c =
+    let the-pre = c .before .before .before .pre in
+    let the-count = c .count in
+    omega (arith, fork-sum (the-pre .1 .1 .0 .is) (the-pre .1 .1 .0 .not-last) (the-count .ensures) (the-pre .1 .0))
+
+forked-sub-rest-2 : (t : ℕ) → forked-lts.Need-sub-rest-2 (forked-calls t) (forked-at t) forked.Post
+forked-sub-rest-2 t c =
+    let the-pre = c .before .before .before .pre in
+    let the-count = c .count in
+    omega (arith, fork-sum (the-pre .1 .1 .0 .is) (the-pre .1 .1 .0 .not-last) (the-count .ensures) (the-pre .1 .0))
+
+forked-add-entered : (t : ℕ) → forked-lts.Need-add-entered (forked-calls t) (forked-at t) forked.Post
+forked-add-entered t c =
+    let the-pre = c .before .before .before .pre in
+    omega (arith, (the-pre .1 .0) .room)
+
+forked-entered-requires : (t : ℕ) → forked-lts.Need-entered-requires (forked-calls t) (forked-at t) forked.Post
+forked-entered-requires t c κs = search needs
+
+forked-entered-requires-2 : (t : ℕ) → forked-lts.Need-entered-requires-2 (forked-calls t) (forked-at t) forked.Post
+forked-entered-requires-2 t c κs = search needs
+
+forked-add-one : (t : ℕ) → forked-lts.Need-add-one (forked-calls t) (forked-at t) forked.Post
+forked-add-one t c =
+    let the-pre = c .before .before .before .before .before .before .pre in
+    let the-count = c .before .before .before .count in
+    omega (arith, more-few (the-pre .1 .1 .0 .is) (the-pre .1 .1 .0 .not-last) (the-count .ensures) (the-pre .1 .0))
+
+forked-put-requires : (t : ℕ) → forked-lts.Need-put-requires (forked-calls t) (forked-at t) forked.Post
+forked-put-requires t c κs =
+    let the-pre = c .before .before .before .before .before .before .before .pre in
+    let the-count = c .before .before .before .before .count in
+    let the-entered = c .before .before .before .entered in
+    let the-args = c .before .before .before .before .before .before .before .args in
+    let the-entered2 = c .before .before .entered2 in
+    record { room = omega (arith, (the-pre .1 .0) .room, fork-sum (the-pre .1 .1 .0 .is) (the-pre .1 .1 .0 .not-last) (the-count .ensures) (the-pre .1 .0), (the-pre .1 .1 .1)); next-fits = omega (arith, the-entered .ensures, entry-small (the-count .result .places) (the-args .base + 1) (the-args .next) {most = 65535} (omega (arith, (the-pre .1 .0) .room)) (omega (arith, (the-pre .1 .0) .follows))); a-fits = omega (arith, the-entered2 .ensures, entry-small (the-args .part .places - 1 - the-count .result .places) (the-args .base + 1 + the-count .result .places) (the-args .next) {most = 65535} (omega (arith, (the-pre .1 .0) .room, fork-sum (the-pre .1 .1 .0 .is) (the-pre .1 .1 .0 .not-last) (the-count .ensures) (the-pre .1 .0))) (omega (arith, (the-pre .1 .0) .follows))); n-fits = omega arith }
+
+forked-add-one-2 : (t : ℕ) → forked-lts.Need-add-one-2 (forked-calls t) (forked-at t) forked.Post
+forked-add-one-2 t c =
+    let the-pre = c .before .before .before .before .before .before .before .before .before .before .before .pre in
+    omega (arith, (the-pre .1 .0) .room)
+
+forked-one-requires : (t : ℕ) → forked-lts.Need-one-requires (forked-calls t) (forked-at t) forked.Post
+forked-one-requires t c κs =
+    let the-pre = c .before .before .before .before .before .before .before .before .before .before .before .pre in
+    let the-count = c .before .before .before .before .before .before .before .before .count in
+    let the-put = c .before .before .before .put in
+    (omega (arith, the-pre .0, row-header (the-pre .1 .0), the-pre .1 .1 .0 .is), (fork-one (the-pre .1 .1 .0 .is) (the-pre .1 .1 .0 .not-last) (the-count .ensures) (the-pre .1 .0), omega (arith, the-put .ensures .kept .same-length, (the-pre .1 .1 .1))))
+
+forked-row-requires : (t : ℕ) → forked-lts.Need-row-requires (forked-calls t) (forked-at t) forked.Post
+forked-row-requires t c κs =
+    let the-pre = c .before .before .before .before .before .before .before .before .before .before .before .before .before .before .before .pre in
+    let the-count = c .before .before .before .before .before .before .before .before .before .before .before .before .count in
+    let the-one = c .before .before .before .one in
+    let the-put = c .before .before .before .before .before .before .before .put in
+    (omega (arith, the-pre .0, row-header (the-pre .1 .0), the-pre .1 .1 .0 .is), (fork-rest (the-pre .1 .1 .0 .is) (the-pre .1 .1 .0 .not-last) (the-count .ensures) (the-pre .1 .0), omega (arith, the-one .ensures .kept .same-length, the-put .ensures .kept .same-length, (the-pre .1 .1 .1))))
+
+forked-same-length : (t : ℕ) → forked-lts.Need-same-length (forked-calls t) (forked-at t) forked.Post
+forked-same-length t c =
+    let the-row = c .before .before .row in
+    let the-one = c .before .before .before .before .before .before .one in
+    let the-put = c .before .before .before .before .before .before .before .before .before .before .put in
+    the-row .ensures .kept .same-length ∙ the-one .ensures .kept .same-length ∙ the-put .ensures .kept .same-length
+
+forked-returns : (t : ℕ) → forked-lts.Need-returns (forked-calls t) (forked-at t) forked.Post
+forked-returns t c =
+    let the-pre = c .before .before .before .before .before .before .before .before .before .before .before .before .before .before .before .before .before .before .pre in
+    let the-count = c .before .before .before .before .before .before .before .before .before .before .before .before .before .before .before .count in
+    let the-entered = c .before .before .before .before .before .before .before .before .before .before .before .before .before .before .entered in
+    let the-entered2 = c .before .before .before .before .before .before .before .before .before .before .before .before .before .entered2 in
+    let the-put = c .before .before .before .before .before .before .before .before .before .before .put in
+    let the-one = c .before .before .before .before .before .before .one in
+    let the-row = c .before .before .row in
+    fork-laid (the-pre .1 .1 .0 .is) (the-pre .1 .1 .0 .not-last) (the-count .ensures) (the-entered .ensures) (the-entered2 .ensures) (the-pre .1 .0) (the-put .ensures) (the-one .ensures) (the-row .ensures)
 
 abbrev headed-calls : ℕ → headed-lts.Claims
 headed-calls t = (entered-reads.Asked, entered-reads.Learnt, put-reads.Asked, put-reads.Learnt, row-below t, row.Post)
@@ -190,16 +368,16 @@ one-add-close-2 t c =
     let the-if4 = c .if4 in
     omega (arith, (the-pre .1 .0) .room, group-two (the-pre .1 .0) (the-number-at .ensures .0) (the-if4 .taken))
 
-one-add-headed : (t : ℕ) → one-lts.Need-add-headed (one-calls t) (one-at t) one.Post
-one-add-headed t c =
-    let the-pre = c .before .before .before .before .before .before .before .before .pre in
+one-add-t28 : (t : ℕ) → one-lts.Need-add-t28 (one-calls t) (one-at t) one.Post
+one-add-t28 t c =
+    let the-pre = c .before .before .before .before .before .before .before .pre in
     omega (arith, (the-pre .1 .0) .inside .few)
 
-one-sub-headed : (t : ℕ) → one-lts.Need-sub-headed (one-calls t) (one-at t) one.Post
-one-sub-headed t c =
-    let the-pre = c .before .before .before .before .before .before .before .before .pre in
-    let the-number-at = c .before .before .before .before .before .number-at in
-    let the-if4 = c .before .if4 in
+one-sub-t29 : (t : ℕ) → one-lts.Need-sub-t29 (one-calls t) (one-at t) one.Post
+one-sub-t29 t c =
+    let the-pre = c .before .before .before .before .before .before .before .pre in
+    let the-number-at = c .before .before .before .before .number-at in
+    let the-if4 = c .if4 in
     group-two (the-pre .1 .0) (the-number-at .ensures .0) (the-if4 .taken)
 
 one-headed-requires : (t : ℕ) → one-lts.Need-headed-requires (one-calls t) (one-at t) one.Post
@@ -318,21 +496,21 @@ one-returns-6 t c =
     row-laid (the-if1 .left) (the-number-at .ensures .0) (the-if2 .left) (the-if3 .left) (the-if4 .left) (the-if5 .left) (the-row .ensures)
 
 abbrev passes-calls : ℕ → passes-lts.Claims
-passes-calls t = (entered-reads.Asked, entered-reads.Learnt, headed-below t, headed.Post, passes-below t, passes.Post, pass-fork-reads.Asked, pass-fork-reads.Learnt, pass-end-reads.Asked, pass-end-reads.Learnt, put-reads.Asked, put-reads.Learnt)
+passes-calls t = (entered-reads.Asked, entered-reads.Learnt, headed-below t, headed.Post, passes-below t, passes.Post, pass-end-reads.Asked, pass-end-reads.Learnt, pass-fork-reads.Asked, pass-fork-reads.Learnt, put-reads.Asked, put-reads.Learnt)
 
 passes-add-after : (t : ℕ) → passes-lts.Need-add-after (passes-calls t) (passes-at t) passes.Post
 passes-add-after t c =
     let the-pre = c .before .before .before .pre in
     let the-args = c .before .before .before .args in
     let the-if1 = c .if1 in
-    omega (arith, (the-pre .1 .0) .room, places-must (the-args .must) (the-args .may) (the-args .places) (the-if1 .taken))
+    omega (arith, (the-pre .1 .0) .room, places-must (the-args .must) (the-args .may) (the-args .part .places) (the-if1 .taken))
 
 passes-add-after-2 : (t : ℕ) → passes-lts.Need-add-after-2 (passes-calls t) (passes-at t) passes.Post
 passes-add-after-2 t c =
-    let the-pre = c .before .before .before .pre in
-    let the-args = c .before .before .before .args in
-    let the-if1 = c .if1 in
-    omega (arith, (the-pre .1 .0) .room, places-must (the-args .must) (the-args .may) (the-args .places) (the-if1 .taken))
+    let the-pre = c .before .before .before .before .pre in
+    let the-args = c .before .before .before .before .args in
+    let the-if1 = c .before .if1 in
+    omega (arith, (the-pre .1 .0) .room, places-must (the-args .must) (the-args .may) (the-args .part .places) (the-if1 .taken))
 
 passes-sub-entered : (t : ℕ) → passes-lts.Need-sub-entered (passes-calls t) (passes-at t) passes.Post
 passes-sub-entered t c =
@@ -344,29 +522,37 @@ passes-add-entered t c =
     let the-pre = c .before .before .before .before .pre in
     let the-args = c .before .before .before .before .args in
     let the-if1 = c .before .if1 in
-    omega (arith, (the-pre .1 .0) .room, passes-count (the-args .must) (the-args .may) (the-args .places), at-least-one (the-if1 .taken))
+    omega (arith, (the-pre .1 .0) .room, passes-count (the-args .must) (the-args .may) (the-args .part .places), at-least-one (the-if1 .taken))
 
 passes-entered-requires : (t : ℕ) → passes-lts.Need-entered-requires (passes-calls t) (passes-at t) passes.Post
 passes-entered-requires t c κs = search needs
 
 passes-headed-requires : (t : ℕ) → passes-lts.Need-headed-requires (passes-calls t) (passes-at t) passes.Post
 passes-headed-requires t c κs =
-    let the-pre = c .before .before .before .before .before .pre in
-    let the-entered = c .entered in
-    let the-if1 = c .before .before .if1 in
+    let the-pre = c .before .before .before .before .before .before .pre in
+    let the-entered = c .before .entered in
+    let the-if1 = c .before .before .before .if1 in
     (omega (arith, the-pre .0), (must-one (the-entered .result) (the-pre .1 .0) (the-if1 .taken) (the-entered .ensures), (pass-head 3 (the-pre .1 .0) (omega arith), the-pre .1 .1)))
 
 passes-sub-passes : (t : ℕ) → passes-lts.Need-sub-passes (passes-calls t) (passes-at t) passes.Post
 passes-sub-passes t c =
-    let the-if1 = c .before .before .before .before .before .before .if1 in
+    let the-if1 = c .before .before .before .before .before .before .before .if1 in
     at-least-one (the-if1 .taken)
 
 passes-passes-requires : (t : ℕ) → passes-lts.Need-passes-requires (passes-calls t) (passes-at t) passes.Post
 passes-passes-requires t c κs =
-    let the-pre = c .before .before .before .before .before .before .before .before .before .pre in
-    let the-if1 = c .before .before .before .before .before .before .if1 in
+    let the-pre = c .before .before .before .before .before .before .before .before .before .before .pre in
+    let the-if1 = c .before .before .before .before .before .before .before .if1 in
     let the-headed = c .before .before .before .headed in
     (omega (arith, the-pre .0, at-least-one (the-if1 .taken)), (must-rest (the-pre .1 .0) (the-if1 .taken), omega (arith, the-headed .ensures .kept .same-length, the-pre .1 .1)))
+
+passes-add-begin : (t : ℕ) → passes-lts.Need-add-begin (passes-calls t) (passes-at t) passes.Post
+passes-add-begin t c =
+    let the-pre = c .before .before .before .before .pre in
+    let the-args = c .before .before .before .before .args in
+    let the-if1 = c .before .if1 in
+    let the-if2 = c .if2 in
+    omega (arith, (the-pre .1 .0) .room, places-may (the-args .must) (the-args .may) (the-args .part .places) (the-if1 .left) (the-if2 .taken))
 
 passes-add-end : (t : ℕ) → passes-lts.Need-add-end (passes-calls t) (passes-at t) passes.Post
 passes-add-end t c =
@@ -374,101 +560,77 @@ passes-add-end t c =
     let the-args = c .before .before .before .before .args in
     let the-if1 = c .before .if1 in
     let the-if2 = c .if2 in
-    omega (arith, (the-pre .1 .0) .room, places-may (the-args .must) (the-args .may) (the-args .places) (the-if1 .left) (the-if2 .taken))
+    omega (arith, (the-pre .1 .0) .room, places-may (the-args .must) (the-args .may) (the-args .part .places) (the-if1 .left) (the-if2 .taken))
 
 passes-add-end-2 : (t : ℕ) → passes-lts.Need-add-end-2 (passes-calls t) (passes-at t) passes.Post
 passes-add-end-2 t c =
-    let the-pre = c .before .before .before .before .pre in
-    let the-args = c .before .before .before .before .args in
-    let the-if1 = c .before .if1 in
-    let the-if2 = c .if2 in
-    omega (arith, (the-pre .1 .0) .room, places-may (the-args .must) (the-args .may) (the-args .places) (the-if1 .left) (the-if2 .taken))
-
-passes-add-end-3 : (t : ℕ) → passes-lts.Need-add-end-3 (passes-calls t) (passes-at t) passes.Post
-passes-add-end-3 t c =
-    let the-pre = c .before .before .before .before .pre in
-    let the-args = c .before .before .before .before .args in
-    let the-if1 = c .before .if1 in
-    let the-if2 = c .if2 in
-    omega (arith, (the-pre .1 .0) .room, places-may (the-args .must) (the-args .may) (the-args .places) (the-if1 .left) (the-if2 .taken))
-
-passes-add-pass-fork : (t : ℕ) → passes-lts.Need-add-pass-fork (passes-calls t) (passes-at t) passes.Post
-passes-add-pass-fork t c =
     let the-pre = c .before .before .before .before .before .pre in
     let the-args = c .before .before .before .before .before .args in
     let the-if1 = c .before .before .if1 in
     let the-if2 = c .before .if2 in
-    omega (arith, (the-pre .1 .0) .room, places-may (the-args .must) (the-args .may) (the-args .places) (the-if1 .left) (the-if2 .taken))
-
-passes-pass-fork-requires : (t : ℕ) → passes-lts.Need-pass-fork-requires (passes-calls t) (passes-at t) passes.Post
-passes-pass-fork-requires t c κs =
-    let the-pre = c .before .before .before .before .before .pre in
-    let the-args = c .before .before .before .before .before .args in
-    let the-if1 = c .before .before .if1 in
-    let the-if2 = c .before .if2 in
-    record { room = omega (arith, the-pre .1 .1, (the-pre .1 .0) .room, places-may (the-args .must) (the-args .may) (the-args .places) (the-if1 .left) (the-if2 .taken)); next-fits = omega (arith, (the-pre .1 .0) .room, places-may (the-args .must) (the-args .may) (the-args .places) (the-if1 .left) (the-if2 .taken)); a-fits = omega (arith, (the-pre .1 .0) .follows); n-fits = omega arith }
-
-passes-add-headed : (t : ℕ) → passes-lts.Need-add-headed (passes-calls t) (passes-at t) passes.Post
-passes-add-headed t c =
-    let the-pre = c .before .before .before .before .before .before .before .before .before .pre in
-    let the-args = c .before .before .before .before .before .before .before .before .before .args in
-    let the-if1 = c .before .before .before .before .before .before .if1 in
-    let the-if2 = c .before .before .before .before .before .if2 in
-    omega (arith, (the-pre .1 .0) .room, places-may (the-args .must) (the-args .may) (the-args .places) (the-if1 .left) (the-if2 .taken))
-
-passes-headed-requires-2 : (t : ℕ) → passes-lts.Need-headed-requires-2 (passes-calls t) (passes-at t) passes.Post
-passes-headed-requires-2 t c κs =
-    let the-pre = c .before .before .before .before .before .before .before .before .before .pre in
-    let the-if1 = c .before .before .before .before .before .before .if1 in
-    let the-if2 = c .before .before .before .before .before .if2 in
-    let the-pass-fork = c .before .before .before .pass-fork in
-    (omega (arith, the-pre .0), (may-one (the-pre .1 .0) (the-if1 .left) (the-if2 .taken), (pass-head 4 (the-pre .1 .0) (omega arith), omega (arith, the-pass-fork .ensures .kept .same-length, the-pre .1 .1))))
+    omega (arith, (the-pre .1 .0) .room, places-may (the-args .must) (the-args .may) (the-args .part .places) (the-if1 .left) (the-if2 .taken))
 
 passes-add-pass-end : (t : ℕ) → passes-lts.Need-add-pass-end (passes-calls t) (passes-at t) passes.Post
 passes-add-pass-end t c =
-    let the-pre = c .before .before .before .before .before .before .before .before .before .before .before .before .before .pre in
-    let the-args = c .before .before .before .before .before .before .before .before .before .before .before .before .before .args in
-    let the-if1 = c .before .before .before .before .before .before .before .before .before .before .if1 in
-    let the-if2 = c .before .before .before .before .before .before .before .before .before .if2 in
-    omega (arith, (the-pre .1 .0) .room, places-may (the-args .must) (the-args .may) (the-args .places) (the-if1 .left) (the-if2 .taken))
+    let the-pre = c .before .before .before .before .before .pre in
+    let the-args = c .before .before .before .before .before .args in
+    let the-if1 = c .before .before .if1 in
+    let the-if2 = c .before .if2 in
+    omega (arith, (the-pre .1 .0) .room, places-may (the-args .must) (the-args .may) (the-args .part .places) (the-if1 .left) (the-if2 .taken))
 
 passes-pass-end-requires : (t : ℕ) → passes-lts.Need-pass-end-requires (passes-calls t) (passes-at t) passes.Post
 passes-pass-end-requires t c κs =
-    let the-if2 = c .before .before .before .before .before .before .before .before .before .if2 in
+    let the-if2 = c .before .if2 in
     at-least-one (the-if2 .taken)
+
+passes-pass-fork-requires : (t : ℕ) → passes-lts.Need-pass-fork-requires (passes-calls t) (passes-at t) passes.Post
+passes-pass-fork-requires t c κs =
+    let the-pre = c .before .before .before .before .before .before .before .pre in
+    let the-args = c .before .before .before .before .before .before .before .args in
+    let the-if1 = c .before .before .before .before .if1 in
+    let the-if2 = c .before .before .before .if2 in
+    record { room = omega (arith, the-pre .1 .1, (the-pre .1 .0) .room, places-may (the-args .must) (the-args .may) (the-args .part .places) (the-if1 .left) (the-if2 .taken)); next-fits = omega (arith, (the-pre .1 .0) .room, places-may (the-args .must) (the-args .may) (the-args .part .places) (the-if1 .left) (the-if2 .taken)); a-fits = omega (arith, (the-pre .1 .0) .follows); n-fits = omega arith }
+
+passes-headed-requires-2 : (t : ℕ) → passes-lts.Need-headed-requires-2 (passes-calls t) (passes-at t) passes.Post
+passes-headed-requires-2 t c κs =
+    let the-pre = c .before .before .before .before .before .before .before .before .before .before .before .pre in
+    let the-if2 = c .before .before .before .before .before .before .before .if2 in
+    let the-if1 = c .before .before .before .before .before .before .before .before .if1 in
+    let the-pass-fork = c .before .before .before .pass-fork in
+    (omega (arith, the-pre .0, at-least-one (the-if2 .taken)), (may-one (the-pre .1 .0) (the-if1 .left) (the-if2 .taken), (pass-head 4 (the-pre .1 .0) (omega arith), omega (arith, the-pass-fork .ensures .kept .same-length, the-pre .1 .1))))
 
 passes-put-requires : (t : ℕ) → passes-lts.Need-put-requires (passes-calls t) (passes-at t) passes.Post
 passes-put-requires t c κs =
-    let the-pre = c .before .before .before .before .before .before .before .before .before .before .before .before .before .before .pre in
-    let the-args = c .before .before .before .before .before .before .before .before .before .before .before .before .before .before .args in
-    let the-if1 = c .before .before .before .before .before .before .before .before .before .before .before .if1 in
-    let the-if2 = c .before .before .before .before .before .before .before .before .before .before .if2 in
-    let the-pass-fork = c .before .before .before .before .before .before .before .before .pass-fork in
-    let the-headed2 = c .before .before .before .before .headed2 in
-    let the-pass-end = c .pass-end in
-    record { room = omega (arith, the-pre .1 .1, (the-pre .1 .0) .room, places-may (the-args .must) (the-args .may) (the-args .places) (the-if1 .left) (the-if2 .taken), the-pass-fork .ensures .kept .same-length, the-headed2 .ensures .kept .same-length); next-fits = omega (arith, the-pass-end .ensures, end-small (the-args .endless) (the-args .may - 1) (the-args .base) (the-args .base + 1 + 1 + the-args .places + 1) (the-args .next) {most = 65535} (omega (arith, (the-pre .1 .0) .room, places-may (the-args .must) (the-args .may) (the-args .places) (the-if1 .left) (the-if2 .taken))) (omega (arith, (the-pre .1 .0) .room, places-may (the-args .must) (the-args .may) (the-args .places) (the-if1 .left) (the-if2 .taken))) (omega (arith, (the-pre .1 .0) .follows))); a-fits = omega arith; n-fits = omega arith }
+    let the-pre = c .before .before .before .before .before .before .before .before .before .before .before .before .before .before .before .pre in
+    let the-args = c .before .before .before .before .before .before .before .before .before .before .before .before .before .before .before .args in
+    let the-if1 = c .before .before .before .before .before .before .before .before .before .before .before .before .if1 in
+    let the-if2 = c .before .before .before .before .before .before .before .before .before .before .before .if2 in
+    let the-pass-fork = c .before .before .before .before .before .before .before .pass-fork in
+    let the-headed2 = c .before .before .before .headed2 in
+    let the-pass-end = c .before .before .before .before .before .before .before .before .before .pass-end in
+    record { room = omega (arith, the-pre .1 .1, (the-pre .1 .0) .room, places-may (the-args .must) (the-args .may) (the-args .part .places) (the-if1 .left) (the-if2 .taken), the-pass-fork .ensures .kept .same-length, the-headed2 .ensures .kept .same-length); next-fits = omega (arith, the-pass-end .ensures, end-small (the-args .pass .endless) (the-args .may - 1) (the-args .base) (the-args .base + 1 + 1 + the-args .part .places + 1) (the-args .next) {most = 65535} (omega (arith, (the-pre .1 .0) .room, places-may (the-args .must) (the-args .may) (the-args .part .places) (the-if1 .left) (the-if2 .taken))) (omega (arith, (the-pre .1 .0) .room, places-may (the-args .must) (the-args .may) (the-args .part .places) (the-if1 .left) (the-if2 .taken))) (omega (arith, (the-pre .1 .0) .follows))); a-fits = omega arith; n-fits = omega arith }
 
 passes-sub-passes-2 : (t : ℕ) → passes-lts.Need-sub-passes-2 (passes-calls t) (passes-at t) passes.Post
 passes-sub-passes-2 t c =
-    let the-if2 = c .before .before .before .before .before .before .before .before .before .before .before .before .before .before .if2 in
+    let the-if2 = c .before .before .before .before .before .before .before .before .before .before .before .before .before .before .before .if2 in
     at-least-one (the-if2 .taken)
 
 passes-add-passes : (t : ℕ) → passes-lts.Need-add-passes (passes-calls t) (passes-at t) passes.Post
 passes-add-passes t c =
-    let the-pre = c .before .before .before .before .before .before .before .before .before .before .before .before .before .before .before .before .before .before .pre in
-    let the-args = c .before .before .before .before .before .before .before .before .before .before .before .before .before .before .before .before .before .before .args in
-    let the-if1 = c .before .before .before .before .before .before .before .before .before .before .before .before .before .before .before .if1 in
-    let the-if2 = c .before .before .before .before .before .before .before .before .before .before .before .before .before .before .if2 in
-    omega (arith, (the-pre .1 .0) .room, places-may (the-args .must) (the-args .may) (the-args .places) (the-if1 .left) (the-if2 .taken))
+    let the-pre = c .before .before .before .before .before .before .before .before .before .before .before .before .before .before .before .before .before .before .before .pre in
+    let the-args = c .before .before .before .before .before .before .before .before .before .before .before .before .before .before .before .before .before .before .before .args in
+    let the-if1 = c .before .before .before .before .before .before .before .before .before .before .before .before .before .before .before .before .if1 in
+    let the-if2 = c .before .before .before .before .before .before .before .before .before .before .before .before .before .before .before .if2 in
+    omega (arith, (the-pre .1 .0) .room, places-may (the-args .must) (the-args .may) (the-args .part .places) (the-if1 .left) (the-if2 .taken))
 
 passes-passes-requires-2 : (t : ℕ) → passes-lts.Need-passes-requires-2 (passes-calls t) (passes-at t) passes.Post
 passes-passes-requires-2 t c κs =
-    let the-pre = c .before .before .before .before .before .before .before .before .before .before .before .before .before .before .before .before .before .before .pre in
-    let the-if2 = c .before .before .before .before .before .before .before .before .before .before .before .before .before .before .if2 in
-    let the-if1 = c .before .before .before .before .before .before .before .before .before .before .before .before .before .before .before .if1 in
+    let the-pre = c .before .before .before .before .before .before .before .before .before .before .before .before .before .before .before .before .before .before .before .pre in
+    let the-if2 = c .before .before .before .before .before .before .before .before .before .before .before .before .before .before .before .if2 in
+    let the-if1 = c .before .before .before .before .before .before .before .before .before .before .before .before .before .before .before .before .if1 in
     let the-put = c .before .before .before .put in
-    let the-headed2 = c .before .before .before .before .before .before .before .before .headed2 in
-    let the-pass-fork = c .before .before .before .before .before .before .before .before .before .before .before .before .pass-fork in
+    let the-headed2 = c .before .before .before .before .before .before .before .headed2 in
+    let the-pass-fork = c .before .before .before .before .before .before .before .before .before .before .before .pass-fork in
     (omega (arith, the-pre .0, at-least-one (the-if2 .taken)), (may-rest (the-pre .1 .0) (the-if1 .left) (the-if2 .taken), omega (arith, the-put .ensures .kept .same-length, the-headed2 .ensures .kept .same-length, the-pass-fork .ensures .kept .same-length, the-pre .1 .1)))
 
 passes-same-length : (t : ℕ) → passes-lts.Need-same-length (passes-calls t) (passes-at t) passes.Post
@@ -479,8 +641,8 @@ passes-same-length t c =
 
 passes-returns : (t : ℕ) → passes-lts.Need-returns (passes-calls t) (passes-at t) passes.Post
 passes-returns t c =
-    let the-if1 = c .before .before .before .before .before .before .before .before .before .if1 in
-    let the-entered = c .before .before .before .before .before .before .before .entered in
+    let the-if1 = c .before .before .before .before .before .before .before .before .before .before .if1 in
+    let the-entered = c .before .before .before .before .before .before .before .before .entered in
     let the-headed = c .before .before .before .before .before .before .headed in
     let the-passes = c .before .before .passes in
     must-laid (the-if1 .taken) (the-entered .ensures) (the-headed .ensures) (the-passes .ensures)
@@ -489,28 +651,28 @@ passes-same-length-2 : (t : ℕ) → passes-lts.Need-same-length-2 (passes-calls
 passes-same-length-2 t c =
     let the-passes2 = c .before .before .passes2 in
     let the-put = c .before .before .before .before .before .before .put in
-    let the-headed2 = c .before .before .before .before .before .before .before .before .before .before .before .headed2 in
-    let the-pass-fork = c .before .before .before .before .before .before .before .before .before .before .before .before .before .before .before .pass-fork in
+    let the-headed2 = c .before .before .before .before .before .before .before .before .before .before .headed2 in
+    let the-pass-fork = c .before .before .before .before .before .before .before .before .before .before .before .before .before .before .pass-fork in
     the-passes2 .ensures .kept .same-length ∙ the-put .ensures .kept .same-length ∙ the-headed2 .ensures .kept .same-length ∙ the-pass-fork .ensures .kept .same-length
 
 passes-returns-2 : (t : ℕ) → passes-lts.Need-returns-2 (passes-calls t) (passes-at t) passes.Post
 passes-returns-2 t c =
-    let the-if1 = c .before .before .before .before .before .before .before .before .before .before .before .before .before .before .before .before .before .before .if1 in
-    let the-if2 = c .before .before .before .before .before .before .before .before .before .before .before .before .before .before .before .before .before .if2 in
-    let the-pass-fork = c .before .before .before .before .before .before .before .before .before .before .before .before .before .before .before .pass-fork in
-    let the-headed2 = c .before .before .before .before .before .before .before .before .before .before .before .headed2 in
+    let the-if1 = c .before .before .before .before .before .before .before .before .before .before .before .before .before .before .before .before .before .before .before .if1 in
+    let the-if2 = c .before .before .before .before .before .before .before .before .before .before .before .before .before .before .before .before .before .before .if2 in
+    let the-pass-fork = c .before .before .before .before .before .before .before .before .before .before .before .before .before .before .pass-fork in
+    let the-headed2 = c .before .before .before .before .before .before .before .before .before .before .headed2 in
     let the-put = c .before .before .before .before .before .before .put in
-    let the-args = c .before .before .before .before .before .before .before .before .before .before .before .before .before .before .before .before .before .before .before .before .before .args in
-    let the-pass-end = c .before .before .before .before .before .before .before .pass-end in
+    let the-args = c .before .before .before .before .before .before .before .before .before .before .before .before .before .before .before .before .before .before .before .before .before .before .args in
+    let the-pass-end = c .before .before .before .before .before .before .before .before .before .before .before .before .before .before .before .before .pass-end in
     let the-passes2 = c .before .before .passes2 in
-    may-laid (the-if1 .left) (the-if2 .taken) (the-pass-fork .ensures) (the-headed2 .ensures) (the-put .ensures) (the-args .endless) (the-pass-end .ensures) (the-passes2 .ensures)
+    may-laid (the-if1 .left) (the-if2 .taken) (the-pass-fork .ensures) (the-headed2 .ensures) (the-put .ensures) (the-args .pass .endless) (the-pass-end .ensures) (the-passes2 .ensures)
 
 passes-returns-3 : (t : ℕ) → passes-lts.Need-returns-3 (passes-calls t) (passes-at t) passes.Post
 passes-returns-3 t c =
     let the-args = c .before .before .before .before .args in
     let the-if1 = c .before .if1 in
     let the-if2 = c .if2 in
-    none-laid (the-args .endless) (the-if1 .left) (the-if2 .left)
+    none-laid (the-args .pass .endless) (the-if1 .left) (the-if2 .left)
 
 abbrev repeated-calls : ℕ → repeated-lts.Claims
 repeated-calls t = (number-at-reads.Asked, number-at-reads.Learnt, count-reads.Asked, count-reads.Learnt, passes-below t, passes.Post)
@@ -611,7 +773,7 @@ repeated-returns-2 t c =
     record { kept = λ m. bounded-laid m (the-number-at .ensures .0) (the-number-at2 .ensures .0) (the-number-at3 .ensures .0) (the-count .ensures) (the-if1 .left) (the-passes2 .ensures) .0; laid = λ m. bounded-laid m (the-number-at .ensures .0) (the-number-at2 .ensures .0) (the-number-at3 .ensures .0) (the-count .ensures) (the-if1 .left) (the-passes2 .ensures) .1 }
 
 abbrev row-calls : ℕ → row-lts.Claims
-row-calls t = (number-at-reads.Asked, number-at-reads.Learnt, one-below t, one.Post, count-reads.Asked, count-reads.Learnt, entered-reads.Asked, entered-reads.Learnt, put-reads.Asked, put-reads.Learnt, row-below t, row.Post)
+row-calls t = (number-at-reads.Asked, number-at-reads.Learnt, one-below t, one.Post, forked-below t, forked.Post, chained-below t, chained.Post)
 
 row-add-end : (t : ℕ) → row-lts.Need-add-end (row-calls t) (row-at t) row.Post
 row-add-end t c =
@@ -631,181 +793,29 @@ row-add-end-2 t c =
 
 row-one-requires : (t : ℕ) → row-lts.Need-one-requires (row-calls t) (row-at t) row.Post
 row-one-requires t c κs =
-    let the-args = c .before .before .before .before .before .args in
-    let the-number-at = c .before .before .number-at in
     let the-pre = c .before .before .before .before .before .pre in
+    let the-number-at = c .before .before .number-at in
+    let the-args = c .before .before .before .before .before .args in
     let the-if1 = c .before .if1 in
-    let ee = (ap (λ (k : ℕ). the-args .at + 4 + k) (the-number-at .ensures .0)) in (omega (arith, the-pre .0, row-header (the-pre .1 .0), the-number-at .ensures .0), (last-one ee (the-if1 .taken) (the-pre .1 .0), the-pre .1 .1))
+    (omega (arith, the-pre .0, row-header (the-pre .1 .0), the-number-at .ensures .0), (last-one (ap (λ (k : ℕ). the-args .part .at + 4 + k) (the-number-at .ensures .0)) (the-if1 .taken) (the-pre .1 .0), the-pre .1 .1))
 
-row-count-requires : (t : ℕ) → row-lts.Need-count-requires (row-calls t) (row-at t) row.Post
-row-count-requires t c κs =
-    let the-args = c .before .before .before .before .args in
-    let the-number-at = c .before .number-at in
-    let the-if1 = c .if1 in
-    let the-pre = c .before .before .before .before .pre in
-    more-counting (ap (λ (k : ℕ). the-args .at + 4 + k) (the-number-at .ensures .0)) (the-if1 .left) (the-pre .1 .0)
-
-row-add-second : (t : ℕ) → row-lts.Need-add-second (row-calls t) (row-at t) row.Post
-row-add-second t c =
+row-forked-requires : (t : ℕ) → row-lts.Need-forked-requires (row-calls t) (row-at t) row.Post
+row-forked-requires t c κs =
+    let the-pre = c .before .before .before .before .before .before .pre in
+    let the-if2 = c .before .if2 in
     let the-args = c .before .before .before .before .before .before .args in
     let the-number-at = c .before .before .before .number-at in
-    let the-if2 = c .if2 in
-    let the-pre = c .before .before .before .before .before .before .pre in
     let the-if1 = c .before .before .if1 in
-    let the-count = c .before .count in
-    let ee = (ap (λ (k : ℕ). the-args .at + 4 + k) (the-number-at .ensures .0)) in let m = rw (the-if2 .taken) at (the-pre .1 .0) in omega (arith, m .room, fork-sum ee (the-if1 .left) (the-count .ensures) m)
+    (omega (arith, the-pre .0), (rw (the-if2 .taken) at (the-pre .1 .0), (record { is = (ap (λ (k : ℕ). the-args .part .at + 4 + k) (the-number-at .ensures .0)); not-last = the-if1 .left }, the-pre .1 .1)))
 
-row-add-second-2 : (t : ℕ) → row-lts.Need-add-second-2 (row-calls t) (row-at t) row.Post
-row-add-second-2 t c =
-    let the-args = c .before .before .before .before .before .before .before .args in
-    let the-number-at = c .before .before .before .before .number-at in
+row-chained-requires : (t : ℕ) → row-lts.Need-chained-requires (row-calls t) (row-at t) row.Post
+row-chained-requires t c κs =
+    let the-pre = c .before .before .before .before .before .before .pre in
     let the-if2 = c .before .if2 in
-    let the-pre = c .before .before .before .before .before .before .before .pre in
-    let the-if1 = c .before .before .before .if1 in
-    let the-count = c .before .before .count in
-    let ee = (ap (λ (k : ℕ). the-args .at + 4 + k) (the-number-at .ensures .0)) in let m = rw (the-if2 .taken) at (the-pre .1 .0) in omega (arith, m .room, fork-sum ee (the-if1 .left) (the-count .ensures) m)
-
-row-sub-rest : (t : ℕ) → row-lts.Need-sub-rest (row-calls t) (row-at t) row.Post
-row-sub-rest t c =
-    let the-args = c .before .before .before .before .before .before .before .args in
-    let the-number-at = c .before .before .before .before .number-at in
-    let the-if2 = c .before .if2 in
-    let the-pre = c .before .before .before .before .before .before .before .pre in
-    let the-if1 = c .before .before .before .if1 in
-    let the-count = c .before .before .count in
-    let ee = (ap (λ (k : ℕ). the-args .at + 4 + k) (the-number-at .ensures .0)) in let m = rw (the-if2 .taken) at (the-pre .1 .0) in omega (arith, fork-sum ee (the-if1 .left) (the-count .ensures) m)
-
-row-sub-rest-2 : (t : ℕ) → row-lts.Need-sub-rest-2 (row-calls t) (row-at t) row.Post
-row-sub-rest-2 t c =
-    let the-args = c .before .before .before .before .before .before .before .before .args in
-    let the-number-at = c .before .before .before .before .before .number-at in
-    let the-if2 = c .before .before .if2 in
-    let the-pre = c .before .before .before .before .before .before .before .before .pre in
-    let the-if1 = c .before .before .before .before .if1 in
-    let the-count = c .before .before .before .count in
-    let ee = (ap (λ (k : ℕ). the-args .at + 4 + k) (the-number-at .ensures .0)) in let m = rw (the-if2 .taken) at (the-pre .1 .0) in omega (arith, fork-sum ee (the-if1 .left) (the-count .ensures) m)
-
-row-add-entered : (t : ℕ) → row-lts.Need-add-entered (row-calls t) (row-at t) row.Post
-row-add-entered t c =
-    let the-args = c .before .before .before .before .before .before .before .before .before .args in
-    let the-number-at = c .before .before .before .before .before .before .number-at in
-    let the-if2 = c .before .before .before .if2 in
-    let the-pre = c .before .before .before .before .before .before .before .before .before .pre in
-    let ee = (ap (λ (k : ℕ). the-args .at + 4 + k) (the-number-at .ensures .0)) in let m = rw (the-if2 .taken) at (the-pre .1 .0) in omega (arith, m .room)
-
-row-entered-requires : (t : ℕ) → row-lts.Need-entered-requires (row-calls t) (row-at t) row.Post
-row-entered-requires t c κs = search needs
-
-row-entered-requires-2 : (t : ℕ) → row-lts.Need-entered-requires-2 (row-calls t) (row-at t) row.Post
-row-entered-requires-2 t c κs = search needs
-
-row-put-requires : (t : ℕ) → row-lts.Need-put-requires (row-calls t) (row-at t) row.Post
-row-put-requires t c κs =
-    let the-args = c .before .before .before .before .before .before .before .before .before .before .before .args in
-    let the-number-at = c .before .before .before .before .before .before .before .before .number-at in
-    let the-if2 = c .before .before .before .before .before .if2 in
-    let the-pre = c .before .before .before .before .before .before .before .before .before .before .before .pre in
-    let the-if1 = c .before .before .before .before .before .before .before .if1 in
-    let the-count = c .before .before .before .before .before .before .count in
-    let the-entered = c .before .entered in
-    let the-entered2 = c .entered2 in
-    let ee = (ap (λ (k : ℕ). the-args .at + 4 + k) (the-number-at .ensures .0)) in let m = rw (the-if2 .taken) at (the-pre .1 .0) in record { room = omega (arith, m .room, fork-sum ee (the-if1 .left) (the-count .ensures) m, the-pre .1 .1); next-fits = omega (arith, the-entered .ensures, entry-small (the-count .result .places) (the-args .base + 1) (the-args .next) {most = 65535} (omega (arith, m .room)) (omega (arith, m .follows))); a-fits = omega (arith, the-entered2 .ensures, entry-small (the-args .places - 1 - the-count .result .places) (the-args .base + 1 + the-count .result .places) (the-args .next) {most = 65535} (omega (arith, m .room, fork-sum ee (the-if1 .left) (the-count .ensures) m)) (omega (arith, m .follows))); n-fits = omega arith }
-
-row-add-one : (t : ℕ) → row-lts.Need-add-one (row-calls t) (row-at t) row.Post
-row-add-one t c =
-    let the-args = c .before .before .before .before .before .before .before .before .before .before .before .before .before .before .before .args in
-    let the-number-at = c .before .before .before .before .before .before .before .before .before .before .before .before .number-at in
-    let the-if2 = c .before .before .before .before .before .before .before .before .before .if2 in
-    let the-pre = c .before .before .before .before .before .before .before .before .before .before .before .before .before .before .before .pre in
-    let ee = (ap (λ (k : ℕ). the-args .at + 4 + k) (the-number-at .ensures .0)) in let m = rw (the-if2 .taken) at (the-pre .1 .0) in omega (arith, m .room)
-
-row-one-requires-2 : (t : ℕ) → row-lts.Need-one-requires-2 (row-calls t) (row-at t) row.Post
-row-one-requires-2 t c κs =
-    let the-args = c .before .before .before .before .before .before .before .before .before .before .before .before .before .before .before .args in
-    let the-number-at = c .before .before .before .before .before .before .before .before .before .before .before .before .number-at in
-    let the-if2 = c .before .before .before .before .before .before .before .before .before .if2 in
-    let the-pre = c .before .before .before .before .before .before .before .before .before .before .before .before .before .before .before .pre in
-    let the-if1 = c .before .before .before .before .before .before .before .before .before .before .before .if1 in
-    let the-count = c .before .before .before .before .before .before .before .before .before .before .count in
-    let the-put = c .before .before .before .put in
-    let ee = (ap (λ (k : ℕ). the-args .at + 4 + k) (the-number-at .ensures .0)) in let m = rw (the-if2 .taken) at (the-pre .1 .0) in (omega (arith, the-pre .0, row-header m, the-number-at .ensures .0), (fork-one ee (the-if1 .left) (the-count .ensures) m, omega (arith, the-put .ensures .kept .same-length, the-pre .1 .1)))
-
-row-add-row : (t : ℕ) → row-lts.Need-add-row (row-calls t) (row-at t) row.Post
-row-add-row t c =
-    let the-args = c .before .before .before .before .before .before .before .before .before .before .before .before .before .before .before .before .before .before .before .before .args in
-    let the-number-at = c .before .before .before .before .before .before .before .before .before .before .before .before .before .before .before .before .before .number-at in
-    let the-if2 = c .before .before .before .before .before .before .before .before .before .before .before .before .before .before .if2 in
-    let the-pre = c .before .before .before .before .before .before .before .before .before .before .before .before .before .before .before .before .before .before .before .before .pre in
-    let the-if1 = c .before .before .before .before .before .before .before .before .before .before .before .before .before .before .before .before .if1 in
-    let the-count = c .before .before .before .before .before .before .before .before .before .before .before .before .before .before .before .count in
-    let ee = (ap (λ (k : ℕ). the-args .at + 4 + k) (the-number-at .ensures .0)) in let m = rw (the-if2 .taken) at (the-pre .1 .0) in omega (arith, more-few ee (the-if1 .left) (the-count .ensures) m)
-
-row-row-requires : (t : ℕ) → row-lts.Need-row-requires (row-calls t) (row-at t) row.Post
-row-row-requires t c κs =
-    let the-args = c .before .before .before .before .before .before .before .before .before .before .before .before .before .before .before .before .before .before .before .before .args in
-    let the-number-at = c .before .before .before .before .before .before .before .before .before .before .before .before .before .before .before .before .before .number-at in
-    let the-if2 = c .before .before .before .before .before .before .before .before .before .before .before .before .before .before .if2 in
-    let the-pre = c .before .before .before .before .before .before .before .before .before .before .before .before .before .before .before .before .before .before .before .before .pre in
-    let the-if1 = c .before .before .before .before .before .before .before .before .before .before .before .before .before .before .before .before .if1 in
-    let the-count = c .before .before .before .before .before .before .before .before .before .before .before .before .before .before .before .count in
-    let the-one2 = c .before .before .before .before .one2 in
-    let the-put = c .before .before .before .before .before .before .before .before .put in
-    let ee = (ap (λ (k : ℕ). the-args .at + 4 + k) (the-number-at .ensures .0)) in let m = rw (the-if2 .taken) at (the-pre .1 .0) in (omega (arith, the-pre .0, row-header m, the-number-at .ensures .0), (fork-rest ee (the-if1 .left) (the-count .ensures) m, omega (arith, the-one2 .ensures .kept .same-length, the-put .ensures .kept .same-length, the-pre .1 .1)))
-
-row-add-second-3 : (t : ℕ) → row-lts.Need-add-second-3 (row-calls t) (row-at t) row.Post
-row-add-second-3 t c =
-    let the-args = c .before .before .before .before .before .before .before .args in
-    let the-number-at = c .before .before .before .before .number-at in
-    let the-if2 = c .before .if2 in
-    let the-pre = c .before .before .before .before .before .before .before .pre in
-    let the-if1 = c .before .before .before .if1 in
-    let the-count = c .before .before .count in
-    let ee = (ap (λ (k : ℕ). the-args .at + 4 + k) (the-number-at .ensures .0)) in let m = rw (the-if2 .left) at (the-pre .1 .0) in omega (arith, m .room, chain-sum ee (the-if1 .left) (the-count .ensures) m)
-
-row-sub-rest-3 : (t : ℕ) → row-lts.Need-sub-rest-3 (row-calls t) (row-at t) row.Post
-row-sub-rest-3 t c =
-    let the-args = c .before .before .before .before .before .before .before .before .args in
-    let the-number-at = c .before .before .before .before .before .number-at in
-    let the-if2 = c .before .before .if2 in
-    let the-pre = c .before .before .before .before .before .before .before .before .pre in
-    let the-if1 = c .before .before .before .before .if1 in
-    let the-count = c .before .before .before .count in
-    let ee = (ap (λ (k : ℕ). the-args .at + 4 + k) (the-number-at .ensures .0)) in let m = rw (the-if2 .left) at (the-pre .1 .0) in omega (arith, chain-sum ee (the-if1 .left) (the-count .ensures) m)
-
-row-entered-requires-3 : (t : ℕ) → row-lts.Need-entered-requires-3 (row-calls t) (row-at t) row.Post
-row-entered-requires-3 t c κs = search needs
-
-row-one-requires-3 : (t : ℕ) → row-lts.Need-one-requires-3 (row-calls t) (row-at t) row.Post
-row-one-requires-3 t c κs =
-    let the-args = c .before .before .before .before .before .before .before .before .before .before .args in
-    let the-number-at = c .before .before .before .before .before .before .before .number-at in
-    let the-if2 = c .before .before .before .before .if2 in
-    let the-pre = c .before .before .before .before .before .before .before .before .before .before .pre in
-    let the-if1 = c .before .before .before .before .before .before .if1 in
-    let the-count = c .before .before .before .before .before .count in
-    let the-entered3 = c .entered3 in
-    let ee = (ap (λ (k : ℕ). the-args .at + 4 + k) (the-number-at .ensures .0)) in let m = rw (the-if2 .left) at (the-pre .1 .0) in (omega (arith, the-pre .0, row-header m, the-number-at .ensures .0), (chain-one ee (the-if1 .left) (the-count .ensures) (the-entered3 .result) (the-entered3 .ensures) m, the-pre .1 .1))
-
-row-add-row-2 : (t : ℕ) → row-lts.Need-add-row-2 (row-calls t) (row-at t) row.Post
-row-add-row-2 t c =
-    let the-args = c .before .before .before .before .before .before .before .before .before .before .before .before .before .before .before .args in
-    let the-number-at = c .before .before .before .before .before .before .before .before .before .before .before .before .number-at in
-    let the-if2 = c .before .before .before .before .before .before .before .before .before .if2 in
-    let the-pre = c .before .before .before .before .before .before .before .before .before .before .before .before .before .before .before .pre in
-    let the-if1 = c .before .before .before .before .before .before .before .before .before .before .before .if1 in
-    let the-count = c .before .before .before .before .before .before .before .before .before .before .count in
-    let ee = (ap (λ (k : ℕ). the-args .at + 4 + k) (the-number-at .ensures .0)) in let m = rw (the-if2 .left) at (the-pre .1 .0) in omega (arith, more-few ee (the-if1 .left) (the-count .ensures) m)
-
-row-row-requires-2 : (t : ℕ) → row-lts.Need-row-requires-2 (row-calls t) (row-at t) row.Post
-row-row-requires-2 t c κs =
-    let the-args = c .before .before .before .before .before .before .before .before .before .before .before .before .before .before .before .args in
-    let the-number-at = c .before .before .before .before .before .before .before .before .before .before .before .before .number-at in
-    let the-if2 = c .before .before .before .before .before .before .before .before .before .if2 in
-    let the-pre = c .before .before .before .before .before .before .before .before .before .before .before .before .before .before .before .pre in
-    let the-if1 = c .before .before .before .before .before .before .before .before .before .before .before .if1 in
-    let the-count = c .before .before .before .before .before .before .before .before .before .before .count in
-    let the-one3 = c .before .before .before .before .one3 in
-    let ee = (ap (λ (k : ℕ). the-args .at + 4 + k) (the-number-at .ensures .0)) in let m = rw (the-if2 .left) at (the-pre .1 .0) in (omega (arith, the-pre .0, row-header m, the-number-at .ensures .0), (chain-rest ee (the-if1 .left) (the-count .ensures) m, omega (arith, the-one3 .ensures .kept .same-length, the-pre .1 .1)))
+    let the-args = c .before .before .before .before .before .before .args in
+    let the-number-at = c .before .before .before .number-at in
+    let the-if1 = c .before .before .if1 in
+    (omega (arith, the-pre .0), (rw (the-if2 .left) at (the-pre .1 .0), (record { is = (ap (λ (k : ℕ). the-args .part .at + 4 + k) (the-number-at .ensures .0)); not-last = the-if1 .left }, the-pre .1 .1)))
 
 row-same-length : (t : ℕ) → row-lts.Need-same-length (row-calls t) (row-at t) row.Post
 row-same-length t c =
@@ -818,52 +828,63 @@ row-returns t c =
     let the-number-at = c .before .before .before .before .before .number-at in
     let the-if1 = c .before .before .before .before .if1 in
     let the-one = c .before .before .one in
-    last-laid (ap (λ (k : ℕ). the-args .at + 4 + k) (the-number-at .ensures .0)) (the-if1 .taken) (the-one .ensures)
+    last-laid (ap (λ (k : ℕ). the-args .part .at + 4 + k) (the-number-at .ensures .0)) (the-if1 .taken) (the-one .ensures)
 
 row-same-length-2 : (t : ℕ) → row-lts.Need-same-length-2 (row-calls t) (row-at t) row.Post
 row-same-length-2 t c =
-    let the-row = c .before .before .row in
-    let the-one2 = c .before .before .before .before .before .before .before .one2 in
-    let the-put = c .before .before .before .before .before .before .before .before .before .before .before .put in
-    the-row .ensures .kept .same-length ∙ the-one2 .ensures .kept .same-length ∙ the-put .ensures .kept .same-length
+    let the-forked = c .before .before .forked in
+    the-forked .ensures .kept .same-length
 
 row-returns-2 : (t : ℕ) → row-lts.Need-returns-2 (row-calls t) (row-at t) row.Post
 row-returns-2 t c =
-    let the-args = c .before .before .before .before .before .before .before .before .before .before .before .before .before .before .before .before .before .before .before .before .before .before .before .args in
-    let the-number-at = c .before .before .before .before .before .before .before .before .before .before .before .before .before .before .before .before .before .before .before .before .number-at in
-    let the-if2 = c .before .before .before .before .before .before .before .before .before .before .before .before .before .before .before .before .before .if2 in
-    let the-pre = c .before .before .before .before .before .before .before .before .before .before .before .before .before .before .before .before .before .before .before .before .before .before .before .pre in
-    let the-if1 = c .before .before .before .before .before .before .before .before .before .before .before .before .before .before .before .before .before .before .before .if1 in
-    let the-count = c .before .before .before .before .before .before .before .before .before .before .before .before .before .before .before .before .before .before .count in
-    let the-entered = c .before .before .before .before .before .before .before .before .before .before .before .before .before .entered in
-    let the-entered2 = c .before .before .before .before .before .before .before .before .before .before .before .before .entered2 in
-    let the-put = c .before .before .before .before .before .before .before .before .before .before .before .put in
-    let the-one2 = c .before .before .before .before .before .before .before .one2 in
-    let the-row = c .before .before .row in
-    let ee = (ap (λ (k : ℕ). the-args .at + 4 + k) (the-number-at .ensures .0)) in let m = rw (the-if2 .taken) at (the-pre .1 .0) in rw (the-if2 .taken) (fork-laid ee (the-if1 .left) (the-count .ensures) (the-entered .ensures) (the-entered2 .ensures) m (the-put .ensures) (the-one2 .ensures) (the-row .ensures))
+    let the-if2 = c .before .before .before .before .if2 in
+    let the-forked = c .before .before .forked in
+    rw (the-if2 .taken) (the-forked .ensures)
 
 row-same-length-3 : (t : ℕ) → row-lts.Need-same-length-3 (row-calls t) (row-at t) row.Post
 row-same-length-3 t c =
-    let the-row2 = c .before .before .row2 in
-    let the-one3 = c .before .before .before .before .before .before .before .one3 in
-    the-row2 .ensures .kept .same-length ∙ the-one3 .ensures .kept .same-length
+    let the-chained = c .before .before .chained in
+    the-chained .ensures .kept .same-length
 
 row-returns-3 : (t : ℕ) → row-lts.Need-returns-3 (row-calls t) (row-at t) row.Post
 row-returns-3 t c =
-    let the-args = c .before .before .before .before .before .before .before .before .before .before .before .before .before .before .before .before .before .before .args in
-    let the-number-at = c .before .before .before .before .before .before .before .before .before .before .before .before .before .before .before .number-at in
-    let the-if2 = c .before .before .before .before .before .before .before .before .before .before .before .before .if2 in
-    let the-pre = c .before .before .before .before .before .before .before .before .before .before .before .before .before .before .before .before .before .before .pre in
-    let the-if1 = c .before .before .before .before .before .before .before .before .before .before .before .before .before .before .if1 in
-    let the-count = c .before .before .before .before .before .before .before .before .before .before .before .before .before .count in
-    let the-entered3 = c .before .before .before .before .before .before .before .before .entered3 in
-    let the-one3 = c .before .before .before .before .before .before .before .one3 in
-    let the-row2 = c .before .before .row2 in
-    let ee = (ap (λ (k : ℕ). the-args .at + 4 + k) (the-number-at .ensures .0)) in let m = rw (the-if2 .left) at (the-pre .1 .0) in rw (the-if2 .left) (chain-laid ee (the-if1 .left) (the-count .ensures) (the-entered3 .ensures) m (the-one3 .ensures) (the-row2 .ensures))
+    let the-if2 = c .before .before .before .before .if2 in
+    let the-chained = c .before .before .chained in
+    rw (the-if2 .left) (the-chained .ensures)
 
-pub +headed+one+passes+repeated+row-spec : {M : Type 1} → statement M
-+headed+one+passes+repeated+row-spec =
-    close μ-headed μ-one μ-passes μ-repeated μ-row (λ t. headed-lts.spec (headed-calls t)
+pub +chained+forked+headed+one+passes+repeated+row-spec : {M : Type 1} → statement M
++chained+forked+headed+one+passes+repeated+row-spec =
+    close μ-chained μ-forked μ-headed μ-one μ-passes μ-repeated μ-row (λ t. chained-lts.spec (chained-calls t)
+    (chained-at t)
+    chained.Post
+    (chained-count-requires t)
+    (chained-add-second t)
+    (chained-sub-rest t)
+    (chained-entered-requires t)
+    (chained-add-t18 t)
+    (chained-one-requires t)
+    (chained-row-requires t)
+    (chained-same-length t)
+    (chained-returns t))
+    (λ t. forked-lts.spec (forked-calls t)
+    (forked-at t)
+    forked.Post
+    (forked-count-requires t)
+    (forked-add-second t)
+    (forked-add-second-2 t)
+    (forked-sub-rest t)
+    (forked-sub-rest-2 t)
+    (forked-add-entered t)
+    (forked-entered-requires t)
+    (forked-entered-requires-2 t)
+    (forked-add-one t)
+    (forked-put-requires t)
+    (forked-add-one-2 t)
+    (forked-one-requires t)
+    (forked-row-requires t)
+    (forked-same-length t)
+    (forked-returns t))
+    (λ t. headed-lts.spec (headed-calls t)
     (headed-at t)
     headed.Post
     (headed-add-entered t)
@@ -887,8 +908,8 @@ pub +headed+one+passes+repeated+row-spec : {M : Type 1} → statement M
     (one-add-close t)
     (one-sub-close t)
     (one-add-close-2 t)
-    (one-add-headed t)
-    (one-sub-headed t)
+    (one-add-t28 t)
+    (one-sub-t29 t)
     (one-headed-requires t)
     (one-put-requires-3 t)
     (one-repeated-requires t)
@@ -915,15 +936,13 @@ pub +headed+one+passes+repeated+row-spec : {M : Type 1} → statement M
     (passes-headed-requires t)
     (passes-sub-passes t)
     (passes-passes-requires t)
+    (passes-add-begin t)
     (passes-add-end t)
     (passes-add-end-2 t)
-    (passes-add-end-3 t)
-    (passes-add-pass-fork t)
-    (passes-pass-fork-requires t)
-    (passes-add-headed t)
-    (passes-headed-requires-2 t)
     (passes-add-pass-end t)
     (passes-pass-end-requires t)
+    (passes-pass-fork-requires t)
+    (passes-headed-requires-2 t)
     (passes-put-requires t)
     (passes-sub-passes-2 t)
     (passes-add-passes t)
@@ -957,25 +976,8 @@ pub +headed+one+passes+repeated+row-spec : {M : Type 1} → statement M
     (row-number-at-requires t)
     (row-add-end-2 t)
     (row-one-requires t)
-    (row-count-requires t)
-    (row-add-second t)
-    (row-add-second-2 t)
-    (row-sub-rest t)
-    (row-sub-rest-2 t)
-    (row-add-entered t)
-    (row-entered-requires t)
-    (row-entered-requires-2 t)
-    (row-put-requires t)
-    (row-add-one t)
-    (row-one-requires-2 t)
-    (row-add-row t)
-    (row-row-requires t)
-    (row-add-second-3 t)
-    (row-sub-rest-3 t)
-    (row-entered-requires-3 t)
-    (row-one-requires-3 t)
-    (row-add-row-2 t)
-    (row-row-requires-2 t)
+    (row-forked-requires t)
+    (row-chained-requires t)
     (row-same-length t)
     (row-returns t)
     (row-same-length-2 t)
