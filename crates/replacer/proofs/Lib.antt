@@ -2,3 +2,7 @@
 pub mod Written
 pub mod Putting
 pub mod Turning
+pub mod Scanning
+pub mod Searching
+pub mod Calling
+pub mod Promises

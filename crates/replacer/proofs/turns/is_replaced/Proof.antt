@@ -2,8 +2,6 @@
 use Rattle.replacer.proofs.Turning.{first-replaced, empty-replaced, full-replaced}
 use Rattle.replacer.proofs.turns.is_replaced.Statement.{statement}
 use Rattle.replacer.proofs.turns.is_replaced.Tie as tie
-use Rattle.replacer.proofs.turns.is_replaced.Reads as reads
-use Rattle.replacer.proofs.turns.is_replaced.Lts as lts
 
 returns : tie.Need-returns
 returns c =

@@ -5,9 +5,6 @@ use lib.ListN.{length}
 use Rattle.replacer.proofs.Turning.{turn-full, turn-empty, turn-last}
 use Rattle.replacer.proofs.turns.match_turn.Statement.{statement}
 use Rattle.replacer.proofs.turns.match_turn.Tie as tie
-use Rattle.replacer.proofs.turns.match_turn.Reads as reads
-use Rattle.replacer.proofs.turns.match_turn.Lts as lts
-use Rattle.replacer.proofs.turns.is_replaced.Reads as is-replaced-reads
 
 array-read-start : tie.Need-array-read-start
 array-read-start c = search needs

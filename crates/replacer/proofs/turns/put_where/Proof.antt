@@ -11,9 +11,6 @@ use mathlib.Core.List.{[]}
 use mathlib.Core.Bool.{Bool, cond}
 use Rattle.replacer.proofs.turns.put_where.Statement.{statement}
 use Rattle.replacer.proofs.turns.put_where.Tie as tie
-use Rattle.replacer.proofs.turns.put_where.Reads as reads
-use Rattle.replacer.proofs.turns.put_where.Lts as lts
-use Rattle.replacer.proofs.writing.put.Reads as put-reads
 
 put-requires : tie.Need-put-requires
 put-requires c κs =

@@ -9,9 +9,6 @@ use Rattle.replacer.specs.Given.{piecesOf}
 use Rattle.paper.proofs.ScanLengths.{put-most}
 use Rattle.replacer.proofs.turns.turn_length.Statement.{statement}
 use Rattle.replacer.proofs.turns.turn_length.Tie as tie
-use Rattle.replacer.proofs.turns.turn_length.Reads as reads
-use Rattle.replacer.proofs.turns.turn_length.Lts as lts
-use Rattle.replacer.proofs.writing.put_length.Reads as put-length-reads
 
 sub-copied : tie.Need-sub-copied
 sub-copied c = search needs

@@ -6,9 +6,6 @@ use Rattle.paper.proofs.ScanWays.{turnOf}
 use mathlib.Core.Bool.{Bool}
 use Rattle.replacer.proofs.turns.turn_of.Statement.{statement}
 use Rattle.replacer.proofs.turns.turn_of.Tie as tie
-use Rattle.replacer.proofs.turns.turn_of.Reads as reads
-use Rattle.replacer.proofs.turns.turn_of.Lts as lts
-use Rattle.replacer.proofs.turns.match_turn.Reads as match-turn-reads
 
 match-turn-requires : tie.Need-match-turn-requires
 match-turn-requires c κs =

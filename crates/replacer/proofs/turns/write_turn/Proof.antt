@@ -7,10 +7,6 @@ use Rattle.replacer.specs.Turn.{asTurn}
 use Rattle.replacer.specs.Given.{piecesOf}
 use Rattle.replacer.proofs.turns.write_turn.Statement.{statement}
 use Rattle.replacer.proofs.turns.write_turn.Tie as tie
-use Rattle.replacer.proofs.turns.write_turn.Reads as reads
-use Rattle.replacer.proofs.turns.write_turn.Lts as lts
-use Rattle.replacer.proofs.turns.put_where.Reads as put-where-reads
-use Rattle.replacer.proofs.writing.append.Reads as append-reads
 
 sub-append : tie.Need-sub-append
 sub-append c = search needs

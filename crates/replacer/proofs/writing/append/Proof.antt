@@ -5,8 +5,6 @@ use lib.ListN.{length}
 use Rattle.replacer.proofs.Written.{Copying, copy-start, copy-more, copy-end}
 use Rattle.replacer.proofs.writing.append.Statement.{statement}
 use Rattle.replacer.proofs.writing.append.Tie as tie
-use Rattle.replacer.proofs.writing.append.Reads as reads
-use Rattle.replacer.proofs.writing.append.Lts as lts
 
 abbrev Inv-loop : tie.InvT-loop
 Inv-loop bytes buffer₀ at i₀ buffer i = Copying bytes buffer₀ at buffer i

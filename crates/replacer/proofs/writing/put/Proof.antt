@@ -12,11 +12,6 @@ use Rattle.replacer.specs.Appended.{Appended}
 use Rattle.replacer.proofs.Putting.{Putting, put-start, put-room, put-more, put-end, measure-right}
 use Rattle.replacer.proofs.writing.put.Statement.{statement}
 use Rattle.replacer.proofs.writing.put.Tie as tie
-use Rattle.replacer.proofs.writing.put.Reads as reads
-use Rattle.replacer.proofs.writing.put.Lts as lts
-use Rattle.replacer.proofs.writing.append.Reads as append-reads
-use Rattle.replacer.proofs.writing.row_bytes.Reads as row-bytes-reads
-use Rattle.template.proofs.record_at.Reads as record-at-reads
 
 abbrev Inv-loop : tie.InvT-loop
 Inv-loop template line rows buffer₀ at place₀ written₀ buffer place written = Putting template line rows buffer₀ at place buffer written

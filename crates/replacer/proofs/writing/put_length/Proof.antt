@@ -14,10 +14,6 @@ use Rattle.replacer.specs.Given.{piecesOf}
 use Rattle.replacer.proofs.Putting.{Measuring, measure-start, measure-more, measure-end, measure-right}
 use Rattle.replacer.proofs.writing.put_length.Statement.{statement}
 use Rattle.replacer.proofs.writing.put_length.Tie as tie
-use Rattle.replacer.proofs.writing.put_length.Reads as reads
-use Rattle.replacer.proofs.writing.put_length.Lts as lts
-use Rattle.replacer.proofs.writing.row_bytes.Reads as row-bytes-reads
-use Rattle.template.proofs.record_at.Reads as record-at-reads
 
 abbrev Inv-loop : tie.InvT-loop
 Inv-loop template line rows place₀ total₀ place total = Measuring template line rows place total

@@ -6,8 +6,6 @@ use lib.ListN.{length, getD}
 use Rattle.replacer.proofs.Putting.{row-absent, row-inside, row-there}
 use Rattle.replacer.proofs.writing.row_bytes.Statement.{statement}
 use Rattle.replacer.proofs.writing.row_bytes.Tie as tie
-use Rattle.replacer.proofs.writing.row_bytes.Reads as reads
-use Rattle.replacer.proofs.writing.row_bytes.Lts as lts
 
 -- where the row is there, it spans a part of the line
 inside : (c : tie.Else1) → (getD (c .before .args .t2) (2 * c .before .args .row) 0 ≤ getD (c .before .args .t2) (2 * c .before .args .row + 1) 0) × (getD (c .before .args .t2) (2 * c .before .args .row + 1) 0 ≤ length (c .before .args .line .now))
