@@ -160,11 +160,71 @@ pub fn after_space(query: &[u8], at: usize, store: &mut [u8], to: usize) -> Fiel
     }
 }
 
-// Whether a field was read and nothing stands behind it.
-pub fn last(query: &[u8], field: Field) -> bool {
-    if field.whole {
-        query.len() <= field.next
+// Whether what was read is whole and nothing stands behind it.
+pub fn ended(query: &[u8], whole: bool, next: usize) -> bool {
+    if whole { query.len() <= next } else { false }
+}
+
+// Two fields one after the other, their bytes from 0 to one and from one to two.
+pub struct Two {
+    pub whole: bool,
+    pub next: usize,
+    pub one: usize,
+    pub two: usize,
+}
+
+// Three fields, likewise.
+pub struct Three {
+    pub whole: bool,
+    pub next: usize,
+    pub one: usize,
+    pub two: usize,
+    pub three: usize,
+}
+
+// The two fields behind a position.
+pub fn read_two(query: &[u8], at: usize, store: &mut [u8]) -> Two
+    requires { ⌜ at ≤ length (now query) ⌝ }
+    ensures { λ r. ⌜ (r .next ≤ length (now (query .entry))) × (r .one ≤ r .two) × (r .two ≤ length (now (store .entry))) ⌝ }
+{
+    let first = after_space(query, at, store, 0);
+    let second = after_space(query, first.next, store, first.end);
+    Two {
+        whole: first.whole && second.whole,
+        next: second.next,
+        one: first.end,
+        two: second.end,
+    }
+}
+
+// The three fields behind a position.
+pub fn read_three(query: &[u8], at: usize, store: &mut [u8]) -> Three
+    requires { ⌜ at ≤ length (now query) ⌝ }
+    ensures { λ r. ⌜ (r .next ≤ length (now (query .entry))) × (r .one ≤ r .two) × (r .two ≤ r .three) × (r .three ≤ length (now (store .entry))) ⌝ }
+{
+    let two = read_two(query, at, store);
+    let third = after_space(query, two.next, store, two.two);
+    Three {
+        whole: two.whole && third.whole,
+        next: third.next,
+        one: two.one,
+        two: two.two,
+        three: third.end,
+    }
+}
+
+// The number behind a space at a position.
+pub fn number_after(query: &[u8], at: usize) -> Number
+    requires { ⌜ at ≤ length (now query) ⌝ }
+    ensures { λ r. ⌜ (r .next ≤ length (now (query .entry))) × (r .value < 1000000000) ⌝ }
+{
+    if at < query.len() {
+        read_number(query, at + 1)
     } else {
-        false
+        Number {
+            whole: false,
+            next: at,
+            value: 0,
+        }
     }
 }

@@ -2,6 +2,7 @@
 // Each is printed back with the answer that the call gives now, so that a file of right cases comes out as it went in.
 mod calls;
 mod fields;
+mod jobs;
 
 use libc::STDIN_FILENO;
 ghost use Prim.Native.Nat.{_≤_};
@@ -19,7 +20,19 @@ const ROOM: usize = 300_000;
 // The calls by number.
 const CHECK: usize = 1;
 
+const MATCH: usize = 2;
+
+const SEARCH: usize = 3;
+
+const TABLE_MATCH: usize = 4;
+
+const TABLE_SEARCH: usize = 5;
+
+const REPLACE: usize = 6;
+
 const PIECE: usize = 7;
+
+const PICK: usize = 8;
 
 // How much of a line is kept, whether more of it came than can be, and how much is gathered for printing.
 struct Progress {
@@ -53,8 +66,26 @@ fn call_of(word: &[u8]) -> usize {
     if check::same(word, b"check") {
         return CHECK;
     }
+    if check::same(word, b"match") {
+        return MATCH;
+    }
+    if check::same(word, b"search") {
+        return SEARCH;
+    }
+    if check::same(word, b"tmatch") {
+        return TABLE_MATCH;
+    }
+    if check::same(word, b"tsearch") {
+        return TABLE_SEARCH;
+    }
+    if check::same(word, b"replace") {
+        return REPLACE;
+    }
     if check::same(word, b"piece") {
         return PIECE;
+    }
+    if check::same(word, b"pick") {
+        return PICK;
     }
     0
 }
@@ -87,6 +118,24 @@ fn answer(
     let call = call_of(&query[0..end]);
     if call == CHECK {
         return calls::check(query, end, store, out, at);
+    }
+    if call == MATCH {
+        return calls::find(query, end, false, store, out, at);
+    }
+    if call == SEARCH {
+        return calls::find(query, end, true, store, out, at);
+    }
+    if call == TABLE_MATCH {
+        return calls::find_in(query, end, false, store, table, out, at);
+    }
+    if call == TABLE_SEARCH {
+        return calls::find_in(query, end, true, store, table, out, at);
+    }
+    if call == PIECE {
+        return calls::piece(query, end, store, table, out, at);
+    }
+    if call == PICK {
+        return calls::pick(query, end, store, out, at);
     }
     calls::bad_line(out, at)
 }

@@ -1,0 +1,164 @@
+use native.Mathlib.Omega.{arith}
+use borrow.Author.Needs.{needs}
+use Rattle.pick.proofs.whole_job.Statement.{statement}
+use Rattle.pick.proofs.whole_job.Tie as tie
+use Rattle.pick.proofs.whole_job.Reads as reads
+use Rattle.pick.proofs.whole_job.Lts as lts
+use Rattle.job.proofs.next_record.Reads as next-record-reads
+use Rattle.job.proofs.print_broken.Reads as print-broken-reads
+use Rattle.pick.proofs.keep.Reads as keep-reads
+use Rattle.pick.proofs.window.ready.Reads as ready-reads
+use Rattle.pick.proofs.with_pattern.Reads as with-pattern-reads
+
+ready-requires : tie.Need-ready-requires
+ready-requires c κs = search needs
+
+next-record-requires : tie.Need-next-record-requires
+next-record-requires c κs = search needs
+
+enum-told : tie.Need-enum-told
+enum-told c = search needs
+
+print-broken-requires : tie.Need-print-broken-requires
+print-broken-requires c κs = search needs
+
+enum-told-2 : tie.Need-enum-told-2
+enum-told-2 c = search needs
+
+print-broken-requires-2 : tie.Need-print-broken-requires-2
+print-broken-requires-2 c κs = search needs
+
+enum-known-start : tie.Need-enum-known-start
+enum-known-start c = search needs
+
+sub-keep : tie.Need-sub-keep
+sub-keep c =
+    let the-start = c .before .before .start in
+    let the-next-record = c .before .before .before .before .next-record in
+    let shown = rw (the-start .given .1) at (the-next-record .ensures) in
+    omega (arith, shown)
+
+part-keep-start : tie.Need-part-keep-start
+part-keep-start c =
+    let the-start = c .before .before .before .start in
+    let the-next-record = c .before .before .before .before .before .next-record in
+    let shown = rw (the-start .given .1) at (the-next-record .ensures) in
+    omega (arith, shown)
+
+part-keep-end : tie.Need-part-keep-end
+part-keep-end c =
+    let the-start = c .before .before .before .start in
+    let the-next-record = c .before .before .before .before .before .next-record in
+    let shown = rw (the-start .given .1) at (the-next-record .ensures) in
+    omega (arith, shown)
+
+keep-requires : tie.Need-keep-requires
+keep-requires c κs = search needs
+
+sub-with-pattern : tie.Need-sub-with-pattern
+sub-with-pattern c = search needs
+
+part-with-pattern-start : tie.Need-part-with-pattern-start
+part-with-pattern-start c = search needs
+
+part-with-pattern-end : tie.Need-part-with-pattern-end
+part-with-pattern-end c = search needs
+
+with-pattern-requires : tie.Need-with-pattern-requires
+with-pattern-requires c κs =
+    let the-start = c .before .before .before .before .before .before .before .before .before .before .before .before .before .before .before .before .start in
+    let the-next-record = c .before .before .before .before .before .before .before .before .before .before .before .before .before .before .before .before .before .before .next-record in
+    let the-pre = c .before .before .before .before .before .before .before .before .before .before .before .before .before .before .before .before .before .before .before .before .before .before .before .before .before .before .before .before .before .before .before .before .pre in
+    let the-ready = c .before .before .before .before .before .before .before .before .before .before .before .before .before .before .before .before .before .before .before .before .before .before .ready in
+    let the-buffer = c .before .before .before .before .before .before .before .before .before .before .before .before .before .before .before .before .before .before .before .before .before .buffer in
+    let shown = rw (the-start .given .1) at (the-next-record .ensures) in
+    let given = the-pre in
+    record {
+      code-long = given .code-long;
+      seen-long = given .seen-long;
+      taken-long = given .taken-long;
+      one-long = given .one-long;
+      other-long = given .other-long;
+      forward = omega (arith, shown);
+      inside = omega (arith, shown, the-ready .ensures, the-buffer .given);
+    }
+
+same-length : tie.Need-same-length
+same-length c = search needs
+
+same-length-2 : tie.Need-same-length-2
+same-length-2 c = search needs
+
+returns : tie.Need-returns
+returns c = search needs
+
+same-length-3 : tie.Need-same-length-3
+same-length-3 c = search needs
+
+same-length-4 : tie.Need-same-length-4
+same-length-4 c = search needs
+
+returns-2 : tie.Need-returns-2
+returns-2 c = search needs
+
+same-length-5 : tie.Need-same-length-5
+same-length-5 c = search needs
+
+same-length-6 : tie.Need-same-length-6
+same-length-6 c = search needs
+
+same-length-7 : tie.Need-same-length-7
+same-length-7 c = search needs
+
+same-length-8 : tie.Need-same-length-8
+same-length-8 c = search needs
+
+same-length-9 : tie.Need-same-length-9
+same-length-9 c = search needs
+
+same-length-10 : tie.Need-same-length-10
+same-length-10 c = search needs
+
+same-length-11 : tie.Need-same-length-11
+same-length-11 c = search needs
+
+same-length-12 : tie.Need-same-length-12
+same-length-12 c = search needs
+
+returns-3 : tie.Need-returns-3
+returns-3 c = search needs
+
+pub whole-job-spec : {M : Type 1} → statement M
+whole-job-spec =
+    tie.close
+    (tie.spec
+    ready-requires
+    next-record-requires
+    enum-told
+    print-broken-requires
+    enum-told-2
+    print-broken-requires-2
+    enum-known-start
+    sub-keep
+    part-keep-start
+    part-keep-end
+    keep-requires
+    sub-with-pattern
+    part-with-pattern-start
+    part-with-pattern-end
+    with-pattern-requires
+    same-length
+    same-length-2
+    returns
+    same-length-3
+    same-length-4
+    returns-2
+    same-length-5
+    same-length-6
+    same-length-7
+    same-length-8
+    same-length-9
+    same-length-10
+    same-length-11
+    same-length-12
+    returns-3)

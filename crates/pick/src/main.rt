@@ -1,0 +1,286 @@
+// Reads a job on standard input, a pattern and then lines, and prints the pattern's numbers and for each line whether it matches, the steps and the rows.
+// The pattern is checked and built once; lines are read and answers written in blocks.
+mod window;
+
+use job::Job;
+use job::Next;
+use matcher::Built;
+use matcher::Machine;
+use window::Window;
+ghost use Prim.Native.Nat.{_≤_};
+ghost use mathlib.Core.Bool.{false};
+ghost use lib.ListN.{length};
+ghost use Rattle.paper.specs.Limits.{lineBytes};
+ghost use Rattle.matcher.specs.Machine.{Runnable};
+ghost use Rattle.pick.specs.Job.{Lines, Tables};
+
+// How far the job is: the window of the input, how much is gathered for printing, and whether it goes on.
+struct Progress {
+    window: Window,
+    printed: usize,
+    goes: bool,
+}
+
+// The pattern's bytes in a place of their own, as the window moves on.
+fn keep(bytes: &mut [u8], body: &[u8]) -> usize
+    ensures { λ r. ⌜ r ≤ length (now (bytes .entry)) ⌝ }
+{
+    let mut i = 0;
+    while i < body.len() {
+        if bytes.len() <= i {
+            return i;
+        }
+        bytes[i] = body[i];
+        i += 1;
+    }
+    i
+}
+
+// A line of the job: matched, and printed.
+fn answer_line(
+    line: &[u8],
+    pattern: &[u8],
+    code: &[u16],
+    places: usize,
+    depth: usize,
+    groups: usize,
+    seen: &mut [u16],
+    taken: &mut [u16],
+    one: &mut [u16],
+    other: &mut [u16],
+    out: &mut [u8],
+    number: u64,
+    at: usize,
+) -> usize
+    requires { ⌜ Runnable (now pattern) (now code) (now line) false places depth 0 (now seen) (now taken) (now one) (now other) ⌝ }
+{
+    let ran = matcher::match_rows(pattern, code, places, depth, line, seen, taken, one, other);
+    let rows = ran.rows;
+    job::print_line(
+        out,
+        at,
+        number,
+        ran.matched,
+        ran.steps as u64,
+        rows,
+        groups,
+        false,
+    )
+}
+
+// The next record of the job: a line, which is answered; its end; or something else, which ends it.
+fn next_line(
+    buffer: &mut [u8],
+    pattern: &[u8],
+    code: &[u16],
+    places: usize,
+    depth: usize,
+    groups: usize,
+    seen: &mut [u16],
+    taken: &mut [u16],
+    one: &mut [u16],
+    other: &mut [u16],
+    out: &mut [u8],
+    number: u64,
+    from: Progress,
+) -> Progress
+    requires { ⌜ Lines (now buffer) (now pattern) (now code) places depth (now seen) (now taken) (now one) (now other) (from .window .start) (from .window .end) ⌝ }
+    ensures { λ r. ⌜ (r .window .start ≤ r .window .end) × (r .window .end ≤ length (now (buffer .entry))) ⌝ }
+{
+    let was = from.window;
+    let printed = from.printed;
+    let window = window::ready(buffer, was);
+    match job::next_record(buffer, window.start, window.end, Job::LINE) {
+        Next::End => Progress {
+            window,
+            printed,
+            goes: false,
+        },
+        Next::Broken => Progress {
+            window,
+            printed: job::print_broken(out, printed, false),
+            goes: false,
+        },
+        Next::Body { start, end } => {
+            let after = answer_line(
+                &buffer[start..end],
+                pattern,
+                code,
+                places,
+                depth,
+                groups,
+                seen,
+                taken,
+                one,
+                other,
+                out,
+                number,
+                printed,
+            );
+            Progress {
+                window: Window {
+                    start: end,
+                    end: window.end,
+                    ended: window.ended,
+                },
+                printed: after,
+                goes: true,
+            }
+        }
+    }
+}
+
+// All lines of the job. A proved loop ends, so it counts them up to a number that no job reaches.
+fn all_lines(
+    buffer: &mut [u8],
+    pattern: &[u8],
+    code: &[u16],
+    places: usize,
+    depth: usize,
+    groups: usize,
+    seen: &mut [u16],
+    taken: &mut [u16],
+    one: &mut [u16],
+    other: &mut [u16],
+    out: &mut [u8],
+    from: Progress,
+) -> usize
+    requires { ⌜ Lines (now buffer) (now pattern) (now code) places depth (now seen) (now taken) (now one) (now other) (from .window .start) (from .window .end) ⌝ }
+{
+    let mut now = from;
+    let mut number: u64 = 0;
+    while number < 18446744073709551615 {
+        number += 1;
+        now = next_line(
+            buffer,
+            pattern,
+            code,
+            places,
+            depth,
+            groups,
+            seen,
+            taken,
+            one,
+            other,
+            out,
+            number,
+            now,
+        );
+        if !now.goes {
+            return now.printed;
+        }
+    }
+    now.printed
+}
+
+// The job behind its pattern: the pattern's numbers and its lines, or its refusal.
+fn with_pattern(
+    buffer: &mut [u8],
+    window: Window,
+    pattern: &[u8],
+    code: &mut [u16],
+    seen: &mut [u16],
+    taken: &mut [u16],
+    one: &mut [u16],
+    other: &mut [u16],
+    out: &mut [u8],
+) -> usize
+    requires { ⌜ Tables (now buffer) (now code) (now seen) (now taken) (now one) (now other) (window .start) (window .end) ⌝ }
+{
+    match matcher::build(pattern, false, code) {
+        Built::Refused { number, place } => { job::print_refused(out, 0, number, place, false) }
+        Built::Machine {
+            places,
+            depth,
+            groups,
+        } => {
+            let printed = job::print_numbers(out, 0, places, depth, groups, false);
+            all_lines(
+                buffer,
+                pattern,
+                code,
+                places,
+                depth,
+                groups,
+                seen,
+                taken,
+                one,
+                other,
+                out,
+                Progress {
+                    window,
+                    printed,
+                    goes: true,
+                },
+            )
+        }
+    }
+}
+
+// The whole job: its pattern first.
+fn whole_job(
+    buffer: &mut [u8],
+    bytes: &mut [u8],
+    code: &mut [u16],
+    seen: &mut [u16],
+    taken: &mut [u16],
+    one: &mut [u16],
+    other: &mut [u16],
+    out: &mut [u8],
+) -> usize
+    requires { ⌜ Tables (now buffer) (now code) (now seen) (now taken) (now one) (now other) 0 0 ⌝ }
+{
+    let window = window::ready(
+        buffer,
+        Window {
+            start: 0,
+            end: 0,
+            ended: false,
+        },
+    );
+    match job::next_record(buffer, window.start, window.end, Job::PATTERN) {
+        Next::End => job::print_broken(out, 0, false),
+        Next::Broken => job::print_broken(out, 0, false),
+        Next::Body { start, end } => {
+            let n = keep(bytes, &buffer[start..end]);
+            let rest = Window {
+                start: end,
+                end: window.end,
+                ended: window.ended,
+            };
+            with_pattern(
+                buffer,
+                rest,
+                &bytes[0..n],
+                code,
+                seen,
+                taken,
+                one,
+                other,
+                out,
+            )
+        }
+    }
+}
+
+fn main() {
+    let mut buffer = io::large_buffer();
+    let mut bytes = [0u8; Job::BODY];
+    let mut code = [0u16; Machine::CODE];
+    let mut seen = [0u16; Machine::PAIRS];
+    let mut taken = [0u16; Machine::PLACES];
+    let mut one = [0u16; Machine::LIST];
+    let mut other = [0u16; Machine::LIST];
+    let mut out = io::large_buffer();
+    let n = whole_job(
+        &mut buffer,
+        &mut bytes,
+        &mut code,
+        &mut seen,
+        &mut taken,
+        &mut one,
+        &mut other,
+        &mut out,
+    );
+    printer::flush(&out, n);
+}
