@@ -261,7 +261,7 @@ pub fn fill(table: &mut [u16], rows: [u16; Spans::NUMBERS])
 }
 
 // The answer that tells the steps, refused by 14 where they are too many to tell. Of an accepted pattern and a line within the limits they never are.
-fn told(matched: bool, steps: u32) -> Answer
+pub fn told(matched: bool, steps: u32) -> Answer
     ensures { λ r. ⌜ TellsSteps matched steps r ⌝ }
 {
     let count = steps as usize;

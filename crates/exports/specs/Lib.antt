@@ -1,0 +1,4 @@
+-- What the contracts of the exported calls cite.
+pub mod Told
+pub mod Memory
+pub mod Replies

@@ -1,0 +1,61 @@
+-- The promises of the exported calls: those of the calls under them, told by a status and in `out`; and where lent memory is too short, nothing is touched.
+use Prim.Native.Nat.{ℕ, _≤_, _<_}
+use mathlib.Core.Path.{_≡_}
+use mathlib.Core.Bool.{Bool}
+use mathlib.Core.List.{List, [], _∷_}
+use lib.ListN.{length}
+use Rattle.paper.specs.Refusal.{Checked, refused, accepted}
+use Rattle.paper.specs.Piece.{pieceCall}
+use Rattle.pattern.specs.declared.Answer as checking
+use Rattle.pattern.specs.Answer.{answerOf, Checks}
+use Rattle.matcher.specs.declared.Answer as matching
+use Rattle.matcher.specs.declared.Built.{Built}
+use Rattle.matcher.specs.declared.Built.the-variants.{Refused, Machine}
+use Rattle.matcher.specs.Answer as found
+use Rattle.matcher.specs.Promise.{Matches, Searches, Answers}
+use Rattle.exports.specs.Told.{tooShort, Tells, checkNumbers, foundNumbers, spanNumbers}
+use Rattle.exports.specs.Memory.{machineNumbers, scratchNumbers, searchesIn, shortest, BuildsIn}
+
+-- refused as too short, `out` as it was
+abbrev pub Untouched : List ℕ → ℕ → List ℕ → Type 0
+Untouched out status after = (status ≡ tooShort) × (after ≡ out)
+
+-- `toj_check`: an answer that checking promises, told
+pub record CheckReplies (pattern out : List ℕ) (status : ℕ) (after : List ℕ) : Type 0 where
+  pub short : length out < 3 → Untouched out status after
+  pub told : 3 ≤ length out → (r : checking.Answer) × Checks pattern r × Tells (checkNumbers (answerOf r)) out status after
+
+-- `toj_match`: an answer that a whole match promises, with the table afterwards, told
+pub record MatchReplies (pattern line table table′ out : List ℕ) (status : ℕ) (after : List ℕ) : Type 0 where
+  pub short : length out < 2 → Untouched out status after × (table′ ≡ table)
+  pub told : 2 ≤ length out → (r : matching.Answer) × Matches pattern line table r table′ × Tells (foundNumbers (found.answerOf r)) out status after
+
+-- `toj_search`: the same of a search
+pub record SearchReplies (pattern line table table′ out : List ℕ) (status : ℕ) (after : List ℕ) : Type 0 where
+  pub short : length out < 2 → Untouched out status after × (table′ ≡ table)
+  pub told : 2 ≤ length out → (r : matching.Answer) × Searches pattern line table r table′ × Tells (foundNumbers (found.answerOf r)) out status after
+
+-- `toj_piece`: what a template record puts in, told
+pub record PieceReplies (template line table : List ℕ) (number : ℕ) (out : List ℕ) (status : ℕ) (after : List ℕ) : Type 0 where
+  pub short : length out < 3 → Untouched out status after
+  pub told : 3 ≤ length out → Tells (spanNumbers (pieceCall template line table number)) out status after
+
+-- what building answers, as numbers: the machine's places and depth, and the pattern's groups
+abbrev pub builtNumbers : Built → Checked (List ℕ)
+builtNumbers (Refused number place) = refused number place
+builtNumbers (Machine places deep many) = accepted (places ∷ deep ∷ many ∷ [])
+
+-- `toj_build`: an answer that building promises, with the machine's memory afterwards, told
+pub record BuildReplies (pattern : List ℕ) (searches : Bool) (machine machine′ out : List ℕ) (status : ℕ) (after : List ℕ) : Type 0 where
+  pub short : length out < 3 → Untouched out status after × (machine′ ≡ machine)
+  pub small : length machine < machineNumbers → Untouched out status after × (machine′ ≡ machine)
+  pub told : 3 ≤ length out → machineNumbers ≤ length machine
+      → (r : Built) × BuildsIn pattern searches machine machine′ r × Tells (builtNumbers r) out status after
+
+-- `toj_run`: what a whole match or a search promises, by what the machine was built for; its scratch, which may hold anything, is long enough or not
+pub record RunReplies (pattern machine line : List ℕ) (scratch : ℕ) (table table′ out : List ℕ) (status : ℕ) (after : List ℕ) : Type 0 where
+  pub short : length out < 2 → Untouched out status after × (table′ ≡ table)
+  pub small : length machine < machineNumbers → Untouched out status after × (table′ ≡ table)
+  pub narrow : scratch < scratchNumbers → Untouched out status after × (table′ ≡ table)
+  pub told : 2 ≤ length out → machineNumbers ≤ length machine → scratchNumbers ≤ scratch
+      → (r : matching.Answer) × Answers (searchesIn machine) pattern line table r table′ × Tells (foundNumbers (found.answerOf r)) out status after

@@ -1,0 +1,57 @@
+// Checking, whole match, search and piece. Lent memory that is too short is refused first, and then nothing is touched.
+use crate::tell::Status;
+use crate::tell::tell_checked;
+use crate::tell::tell_found;
+use crate::tell::tell_piece;
+ghost use mathlib.Core.Path.{_≡_};
+ghost use Rattle.exports.specs.Replies.{CheckReplies, MatchReplies, SearchReplies, PieceReplies};
+
+// Checks a pattern, and tells its places, depth and groups.
+#[no_mangle]
+pub extern "C" fn toj_check(pattern: &[u8], out: &mut [u64]) -> u32
+    ensures { λ r. ⌜ CheckReplies (now (pattern .entry)) (now (out .entry)) r (now (out .exit)) ⌝ }
+{
+    if out.len() < 3 {
+        return Status::SHORT;
+    }
+    tell_checked(pattern::check(pattern), out)
+}
+
+// Matches the whole line, and tells whether it matches and the steps.
+#[no_mangle]
+pub extern "C" fn toj_match(pattern: &[u8], line: &[u8], table: &mut [u16], out: &mut [u64]) -> u32
+    ensures { λ r. ⌜ MatchReplies (now (pattern .entry)) (now (line .entry)) (now (table .entry)) (now (table .exit)) (now (out .entry)) r (now (out .exit)) ⌝ }
+{
+    if out.len() < 2 {
+        return Status::SHORT;
+    }
+    tell_found(matcher::whole_match(pattern, line, table), out)
+}
+
+// Searches the line for the first match, and tells whether there is one and the steps.
+#[no_mangle]
+pub extern "C" fn toj_search(pattern: &[u8], line: &[u8], table: &mut [u16], out: &mut [u64]) -> u32
+    ensures { λ r. ⌜ SearchReplies (now (pattern .entry)) (now (line .entry)) (now (table .entry)) (now (table .exit)) (now (out .entry)) r (now (out .exit)) ⌝ }
+{
+    if out.len() < 2 {
+        return Status::SHORT;
+    }
+    tell_found(matcher::search(pattern, line, table), out)
+}
+
+// Tells which bytes a template record puts in: their source, start and end.
+#[no_mangle]
+pub extern "C" fn toj_piece(
+    template: &[u8],
+    line: &[u8],
+    table: &[u16],
+    number: usize,
+    out: &mut [u64],
+) -> u32
+    ensures { λ r. ⌜ PieceReplies (now (template .entry)) (now (line .entry)) (now (table .entry)) number (now (out .entry)) r (now (out .exit)) ⌝ }
+{
+    if out.len() < 3 {
+        return Status::SHORT;
+    }
+    tell_piece(template::piece(template, line, table, number), out)
+}

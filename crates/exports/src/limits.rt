@@ -1,0 +1,76 @@
+// The limits, and how long lent memory has to be.
+use pattern::Line;
+use pattern::Pattern;
+use pattern::Spans;
+use pattern::Template;
+ghost use mathlib.Core.Path.{_≡_};
+ghost use Rattle.paper.specs.Limits.{patternBytes, templateBytes, lineBytes, rowCount, tableNumbers};
+ghost use Rattle.exports.specs.Memory.{headNumbers, machineNumbers, scratchNumbers};
+
+// The memory of the built variants.
+pub struct Memory {}
+
+impl Memory {
+    // a machine's places, its depth, and whether it searches
+    pub const HEAD: usize = 3;
+    // these, and its table
+    pub const MACHINE: usize = Memory::HEAD + matcher::Machine::CODE;
+    // a list of threads, which is the longest thing that a run needs
+    pub const SCRATCH: usize = matcher::Machine::LIST;
+}
+
+// The longest pattern.
+#[no_mangle]
+pub extern "C" fn toj_pattern_bytes() -> usize
+    ensures { λ r. ⌜ r ≡ patternBytes ⌝ }
+{
+    Pattern::BYTES
+}
+
+// The longest template.
+#[no_mangle]
+pub extern "C" fn toj_template_bytes() -> usize
+    ensures { λ r. ⌜ r ≡ templateBytes ⌝ }
+{
+    Template::BYTES
+}
+
+// The longest line.
+#[no_mangle]
+pub extern "C" fn toj_line_bytes() -> usize
+    ensures { λ r. ⌜ r ≡ lineBytes ⌝ }
+{
+    Line::BYTES
+}
+
+// The rows of a span table.
+#[no_mangle]
+pub extern "C" fn toj_rows() -> usize
+    ensures { λ r. ⌜ r ≡ rowCount ⌝ }
+{
+    Spans::ROWS
+}
+
+// The numbers of a span table.
+#[no_mangle]
+pub extern "C" fn toj_table_numbers() -> usize
+    ensures { λ r. ⌜ r ≡ tableNumbers ⌝ }
+{
+    Spans::NUMBERS
+}
+
+// The numbers of a built machine.
+#[no_mangle]
+pub extern "C" fn toj_machine_numbers() -> usize
+    ensures { λ r. ⌜ r ≡ machineNumbers ⌝ }
+{
+    Memory::MACHINE
+}
+
+// The numbers of each of the four memories that a machine is run in.
+#[no_mangle]
+pub extern "C" fn toj_scratch_numbers() -> usize
+    ensures { λ r. ⌜ r ≡ scratchNumbers ⌝ }
+{
+    Memory::SCRATCH
+}
