@@ -119,7 +119,14 @@ function makeTree(random, room) {
     if (r < 0.74) return { kind: 5, members: Array.from({ length: 2 + pick(2) }, () => makeTree(random, room - 1)) };
     const least = pick(3);
     const most = random() < 0.6 ? NO_END : least + pick(3);
-    return { kind: 6, least, most, lazy: random() < 0.35, inner: makeTree(random, room - 1) };
+    return { kind: 6, least, most, lazy: random() < 0.35, inner: random() < 0.3 ? makeEmptyRepeat(random, room - 1) : makeTree(random, room - 1) };
+}
+
+// A repeat whose body can be empty, for the inside of another.
+function makeEmptyRepeat(random, room) {
+    const inner = { kind: 5, members: random() < 0.5 ? [makeTree(random, room - 1), { kind: 1 }] : [{ kind: 1 }, makeTree(random, room - 1)] };
+    const repeat = { kind: 6, least: Math.floor(random() * 2), most: NO_END, lazy: random() < 0.35, inner };
+    return random() < 0.5 ? { kind: 3, inner: repeat } : repeat;
 }
 
 // A line that the tree reads, or null where the dice find none.
