@@ -4,7 +4,7 @@ use native.Mathlib.Omega.{arith}
 use mathlib.Core.Path.{_≡_, refl, sym, ap, ap₂, subst, _∙_}
 use mathlib.Core.Bool.{Bool, true, false}
 use mathlib.Core.List.{List, _++_}
-use mathlib.Core.Option.{Option, Option·map}
+use mathlib.Core.Option.{Option}
 use lib.Dec.{leb}
 use lib.ListN.{length, drop}
 use borrow.Author.Tests.{le-leb, lt-leb}
@@ -14,8 +14,7 @@ use Rattle.paper.specs.Pattern.{Pattern, allPlaces, depth}
 use Rattle.paper.specs.Layout.{Lawful}
 use Rattle.paper.specs.Check.{patternOf}
 use Rattle.paper.specs.Rows.{Rows}
-use Rattle.paper.specs.Match.{wholeMatch, search, matchSteps, searchSteps, Found, lineAndTable, counted, matchCall, searchCall, isMatch, rowsOrNone, tableAfter, Told, told}
-use Rattle.paper.specs.Replace.{moved}
+use Rattle.paper.specs.Match.{wholeMatch, search, matchSteps, searchSteps, Found, lineAndTable, counted, matchCall, searchCall, isMatch, tableAfter, Told, told}
 use Rattle.paper.proofs.Bound.{steps-bound, search-bound, mostSteps, most-told, match-steps, search-steps, counted-told}
 use Rattle.matcher.specs.declared.Answer.{Answer}
 use Rattle.matcher.specs.declared.Answer.the-variants.{Refused, Match, NoMatch}

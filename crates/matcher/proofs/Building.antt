@@ -1,5 +1,5 @@
 -- What checking found and building wrote make a machine that is ready.
-use Prim.Native.Nat.{ℕ, _+_, _*_, max, _≤_, _<_}
+use Prim.Native.Nat.{ℕ, max, _≤_, _<_}
 use native.Mathlib.Omega.{arith}
 use mathlib.Core.Path.{_≡_, refl, sym, ap, subst, _∙_}
 use mathlib.Core.Bool.{Bool, true, false}
@@ -21,26 +21,26 @@ use Rattle.matcher.specs.declared.Built.the-variants.{Refused, Machine}
 use Rattle.matcher.specs.Machine.{wrapped, firstGroup, Ready, Builds}
 use Rattle.matcher.proofs.Wiring.{few-places}
 
--- the tree of a pattern that checking took, with its numbers
-pub record Tree (pattern : List ℕ) (places deep many : ℕ) : Type 0 where
+-- the tree of a pattern that checking took, with its depth and its groups
+pub record Tree (pattern : List ℕ) (deep many : ℕ) : Type 0 where
   pub tree : Pattern
   pub found : patternOf pattern ≡ accepted tree
   pub deep-is : deep ≡ depth tree
   pub many-are : many ≡ groups tree
 
 -- checking takes a pattern exactly where it has a tree
-pub tree-of : {pattern : List ℕ} {r : Answer} {n d g : ℕ} → Checks pattern r → r ≡ Accepted n d g → Tree pattern n d g
+pub tree-of : {pattern : List ℕ} {r : Answer} {n d g : ℕ} → Checks pattern r → r ≡ Accepted n d g → Tree pattern d g
 tree-of {pattern} {r} {n} {d} {g} checked is = look (patternOf pattern) refl (sym (ap answerOf is) ∙ checked .answer)
   where
     look : (found : Checked Pattern) → patternOf pattern ≡ found
-        → accepted (record { places = n; depth = d; groups = g }) ≡ (found >>= λ e. accepted (numbersOf e)) → Tree pattern n d g
+        → accepted (record { places = n; depth = d; groups = g }) ≡ (found >>= λ e. accepted (numbersOf e)) → Tree pattern d g
     look (refused number place) is e = let z : _≡_ {A = ℕ} 0 1 = cc in absurd (omega arith)
     look (accepted tree) is e =
         let same : _≡_ {A = Numbers} (record { places = n; depth = d; groups = g }) (numbersOf tree) = cc in
         record { tree = tree; found = is; deep-is = ap (λ (m : Numbers). m .depth) same; many-are = ap (λ (m : Numbers). m .groups) same }
 
 -- so it can be built
-pub accepted-of : {pattern : List ℕ} {n d g : ℕ} → Tree pattern n d g → places.Accepted pattern
+pub accepted-of : {pattern : List ℕ} {d g : ℕ} → Tree pattern d g → places.Accepted pattern
 accepted-of t = record { tree = t .tree; found = t .found }
 
 -- and refuses it otherwise
@@ -71,7 +71,7 @@ module _ (pattern before after : List ℕ) (bytes : (i : ℕ) → getD pattern i
       }
 
   -- for a whole match
-  pub builds-match : {count d g n : ℕ} (searches : Bool) → searches ≡ false → Tree pattern n d g → places.BuiltMatch pattern before after count
+  pub builds-match : {count d g : ℕ} (searches : Bool) → searches ≡ false → Tree pattern d g → places.BuiltMatch pattern before after count
       → Builds pattern searches before after (Machine count d g)
   unfolding ready
   builds-match {count} {d} {g} searches is t built =
@@ -84,7 +84,7 @@ module _ (pattern before after : List ℕ) (bytes : (i : ℕ) → getD pattern i
       )
 
   -- for a search
-  pub builds-search : {count d g n deep : ℕ} (searches : Bool) → searches ≡ true → deep ≡ max 1 d → Tree pattern n d g
+  pub builds-search : {count d g deep : ℕ} (searches : Bool) → searches ≡ true → deep ≡ max 1 d → Tree pattern d g
       → places.BuiltSearch pattern before after count → Builds pattern searches before after (Machine count deep g)
   unfolding ready
   builds-search {count} {d} {g} {deep = deep} searches is low t built =

@@ -1,5 +1,5 @@
 -- What a run of the built machine finds, in the words of the public promises: the list machine on the rest of the line is the ordered reading's whole match or search.
-use Prim.Native.Nat.{ℕ, suc, _+_, _-_, _*_, _≤_, _<_}
+use Prim.Native.Nat.{ℕ, suc, _+_, _-_, _*_, _≤_}
 use native.Mathlib.Omega.{arith}
 use mathlib.Core.Path.{_≡_, refl, sym, ap, ap₂, subst, _∙_}
 use mathlib.Core.Bool.{Bool, true, false, cond}
@@ -10,12 +10,11 @@ use lib.ListN.{length, drop, length-drop}
 use borrow.Author.Tests.{eqb-true}
 use Rattle.paper.specs.Limits.{lineBytes, absent}
 use Rattle.paper.specs.Refusal.{accepted}
-use Rattle.paper.specs.Pattern.{Pattern, allPlaces, depth}
+use Rattle.paper.specs.Pattern.{Pattern}
 use Rattle.paper.specs.Check.{patternOf}
 use Rattle.paper.specs.Rows.{Rows, noRows, setRow}
-use Rattle.paper.specs.Machine.{Place, placesOf, at, Stopped, matched, unmatched, run, pairs, machine, stepsOf, rowsOf}
+use Rattle.paper.specs.Machine.{Place, at, Stopped, matched, unmatched, run, pairs, machine, stepsOf, rowsOf}
 use Rattle.paper.specs.Match.{withRow0, wholeMatch, wrap, search, matchSteps, searchSteps}
-use Rattle.paper.specs.Tables.{decode}
 use Rattle.paper.specs.Replace.{movedBy, moved}
 use Rattle.paper.proofs.MachineReads.{machine-matches, machine-searches}
 use Rattle.paper.proofs.MovedMachine.{movedStopped, steps-moved, rows-moved, machine-moved}

@@ -2,7 +2,7 @@
 use Prim.Native.Nat.{ℕ, zero, suc, _+_, _*_, _≤_, _<_}
 use native.Mathlib.Omega.{arith}
 use native.Mathlib.Nat.{mul-le-mul, mul-le-mul-right, mul-comm, add-mul}
-use mathlib.Core.Path.{_≡_, refl, sym, ap, subst, _∙_}
+use mathlib.Core.Path.{_≡_, sym, ap, subst, _∙_}
 use mathlib.Core.Bool.{Bool, true, false}
 use mathlib.Core.List.{List}
 use lib.ListN.{length, getD}
@@ -10,7 +10,6 @@ use Rattle.paper.specs.Limits.{patternLevels, rowCount, lineBytes}
 use Rattle.paper.specs.Pattern.{Pattern, allPlaces, depth, groups}
 use Rattle.paper.specs.Layout.{Lawful}
 use Rattle.paper.specs.Machine.{Place, stop, placesOf, pairs}
-use Rattle.paper.specs.Match.{wrap}
 use Rattle.paper.specs.Tables.{stopPlace, beginOptionalPlace, placeNumbers, placeOf, placeAt, decode}
 use Rattle.paper.proofs.Sizes.{places-wrap, depth-wrap, depth-levels}
 use Rattle.paper.proofs.Static.{Static, deepAt, deep-most, places-static}
@@ -18,6 +17,7 @@ use Rattle.visit.specs.Threads.{threadNumbers}
 use Rattle.visit.specs.Wired.{kindAt, nextAt, firstAt, manyAt, Slots, Wired}
 use Rattle.visit.proofs.Cells.{decode-at}
 use Rattle.places.specs.Laid.{Readable}
+use Rattle.places.specs.Asked.{mostPlaces}
 use Rattle.matcher.specs.Machine.{wrapped, firstGroup, Ready, Scratch, Runnable}
 
 module _ (pattern : List ℕ) (deep : ℕ → ℕ) (places x : ℕ) where
@@ -94,7 +94,7 @@ few-rows : (searches : Bool) (e : Pattern) → Lawful e → firstGroup searches 
 few-rows false e lawful = omega (arith, lawful .few-groups)
 few-rows true e lawful = omega (arith, lawful .few-groups)
 
-pub few-places : (searches : Bool) (e : Pattern) → Lawful e → allPlaces (wrapped searches e) ≤ 510
+pub few-places : (searches : Bool) (e : Pattern) → Lawful e → allPlaces (wrapped searches e) ≤ mostPlaces
 few-places false e lawful = omega (arith, lawful .few-places)
 few-places true e lawful = omega (arith, lawful .few-places, places-wrap e)
 
@@ -103,13 +103,13 @@ few-levels false e lawful = omega (arith, depth-levels e, lawful .few-levels)
 few-levels true e lawful = omega (arith, depth-levels e, lawful .few-levels, depth-wrap e)
 
 -- the sizes of a machine that is ready are within those of the tables
-pub ready-places : {pattern code : List ℕ} {searches : Bool} {places deep : ℕ} → Ready pattern code searches places deep → (0 < places) × (places ≤ 510)
+pub ready-places : {pattern code : List ℕ} {searches : Bool} {places deep : ℕ} → Ready pattern code searches places deep → (0 < places) × (places ≤ mostPlaces)
 ready-places {searches = searches} m = (omega (arith, m .places-are), omega (arith, m .places-are, few-places searches (m .tree) (m .lawful)))
 
 pub ready-levels : {pattern code : List ℕ} {searches : Bool} {places deep : ℕ} → Ready pattern code searches places deep → deep + 1 ≤ patternLevels
 ready-levels {searches = searches} m = omega (arith, m .deep-is, few-levels searches (m .tree) (m .lawful))
 
-pub ready-pairs : {pattern code : List ℕ} {searches : Bool} {places deep : ℕ} → Ready pattern code searches places deep → places * (deep + 1) ≤ 510 * patternLevels
+pub ready-pairs : {pattern code : List ℕ} {searches : Bool} {places deep : ℕ} → Ready pattern code searches places deep → places * (deep + 1) ≤ mostPlaces * patternLevels
 ready-pairs m = mul-le-mul (ready-places m .1) (ready-levels m)
 
 -- a machine that is ready is safe to run
@@ -129,8 +129,8 @@ ready-wired {pattern} {code} {searches} {places} {deep} m =
 
 -- scratch of the tables' sizes is long enough for it, whichever lists it holds
 pub ready-scratch : {pattern code : List ℕ} {searches : Bool} {places deep : ℕ} → Ready pattern code searches places deep
-    → {seen taken one other : List ℕ} → length seen ≡ 510 * patternLevels → length taken ≡ 510 → length one ≡ threadNumbers * 511
-    → length other ≡ threadNumbers * 511 → Scratch places deep seen taken one other
+    → {seen taken one other : List ℕ} → length seen ≡ mostPlaces * patternLevels → length taken ≡ mostPlaces → length one ≡ threadNumbers * (mostPlaces + 1)
+    → length other ≡ threadNumbers * (mostPlaces + 1) → Scratch places deep seen taken one other
 ready-scratch m s t o o′ = record {
   seen-long = omega (arith, ready-pairs m, s);
   taken-long = omega (arith, ready-places m, t);
@@ -140,8 +140,8 @@ ready-scratch m s t o o′ = record {
 
 -- from the line's start
 pub ready-runs : {pattern code line : List ℕ} {searches : Bool} {places deep : ℕ} {seen taken one other : List ℕ} (flag : Bool) → searches ≡ flag
-    → Ready pattern code searches places deep → length line ≤ lineBytes → length seen ≡ 510 * patternLevels → length taken ≡ 510
-    → length one ≡ threadNumbers * 511 → length other ≡ threadNumbers * 511 → Runnable pattern code line flag places deep 0 seen taken one other
+    → Ready pattern code searches places deep → length line ≤ lineBytes → length seen ≡ mostPlaces * patternLevels → length taken ≡ mostPlaces
+    → length one ≡ threadNumbers * (mostPlaces + 1) → length other ≡ threadNumbers * (mostPlaces + 1) → Runnable pattern code line flag places deep 0 seen taken one other
 ready-runs {pattern} {code} {places = places} {deep = deep} flag same m short s t o o′ = record {
   ready = subst (λ (b : Bool). Ready pattern code b places deep) same m;
   short = short;

@@ -1,5 +1,6 @@
 -- The pattern's refusals, or what the machine that was built answers.
 use lib.ListN.{replicate}
+use Rattle.places.specs.Asked.{tableRoom}
 use Rattle.matcher.proofs.Building.{machine-of, refusal-of}
 use Rattle.matcher.proofs.Answering.{refuses-pattern}
 use borrow.Author.Needs.{needs}
@@ -30,14 +31,14 @@ finish-requires c κs =
     let the-args = c .before .before .before .before .before .before .before .before .before .before .before .args in
     let the-build = c .before .before .before .before .before .before .build in
     let the-places = c .before .before .before .places in
-    machine-of (the-args .pattern .now) (the-args .searches) (replicate 2040 0) (the-build .last .1 .1 .0) (the-build .ensures) (the-places .given .1)
+    machine-of (the-args .pattern .now) (the-args .searches) (replicate tableRoom 0) (the-build .last .1 .1 .0) (the-build .ensures) (the-places .given .1)
 
 returns : tie.Need-returns
 returns c =
     let the-args = c .before .before .before .before .before .before .before .before .before .args in
     let the-number = c .before .number in
     let the-build = c .before .before .before .before .build in
-    refuses-pattern (the-args .searches) (the-args .pattern .now) (the-args .line .now) (the-args .table .now) (the-number .given .0 .0) (the-number .given .0 .1 .0) (refusal-of (the-args .pattern .now) (the-args .searches) (replicate 2040 0) (the-build .last .1 .1 .0) (the-build .ensures) (the-number .given .1))
+    refuses-pattern (the-args .searches) (the-args .pattern .now) (the-args .line .now) (the-args .table .now) (the-number .given .0 .0) (the-number .given .0 .1 .0) (refusal-of (the-args .pattern .now) (the-args .searches) (replicate tableRoom 0) (the-build .last .1 .1 .0) (the-build .ensures) (the-number .given .1))
 
 same-length : tie.Need-same-length
 same-length c = search needs

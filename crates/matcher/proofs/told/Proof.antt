@@ -1,7 +1,6 @@
 -- More steps than can be told are refused, others are told as they are.
 use mathlib.Core.Path.{refl, sym, ap}
 use mathlib.Core.Bool.{Bool}
-use native.Mathlib.Omega.{arith}
 use Rattle.paper.specs.Refusal.{accepted}
 use Rattle.matcher.proofs.Answering.{tells, tells-not}
 use borrow.Author.Needs.{needs}
