@@ -41,7 +41,8 @@ int main(int count, char **words)
     const char *const *lines = count > 1 ? (const char *const *)words + 1 : own;
     size_t line_count = count > 1 ? (size_t)count - 1 : sizeof own / sizeof *own;
     uint16_t *machine = calloc(toj_machine_numbers(), sizeof *machine);
-    uint16_t *scratch = calloc(toj_scratch_numbers(), sizeof *scratch);
+    size_t part = toj_scratch_numbers();
+    uint16_t *scratch = calloc(4 * part, sizeof *scratch);
     uint16_t *table = calloc(toj_table_numbers(), sizeof *table);
     uint64_t out[3];
     uint32_t status;
@@ -53,11 +54,12 @@ int main(int count, char **words)
     if (status != TOJ_ANSWERED)
         return refused("build", status, out);
     rows = (size_t)out[2] + 1;
-    printf("places %llu depth %llu groups %llu\n", (unsigned long long)out[0], (unsigned long long)out[1],
+    printf("machine: places %llu depth %llu groups %llu\n", (unsigned long long)out[0], (unsigned long long)out[1],
            (unsigned long long)out[2]);
     for (size_t i = 0; i < line_count; i++) {
         status = toj_run(pattern, sizeof pattern, machine, toj_machine_numbers(), (const uint8_t *)lines[i],
-                         strlen(lines[i]), scratch, toj_scratch_numbers(), table, toj_table_numbers(), out, 3);
+                         strlen(lines[i]), scratch, part, scratch + part, part, scratch + 2 * part, part,
+                         scratch + 3 * part, part, table, toj_table_numbers(), out, 3);
         if (status != TOJ_ANSWERED)
             return refused("run", status, out);
         printf("%s: %s, %llu steps\n", lines[i], out[0] ? "found" : "none", (unsigned long long)out[1]);

@@ -42,7 +42,7 @@ size_t toj_table_numbers(void);
 /* The length of the memory that holds a built machine. */
 size_t toj_machine_numbers(void);
 
-/* The length of the memory that a built machine is run in. */
+/* The length of each of the four memories that a built machine is run in. */
 size_t toj_scratch_numbers(void);
 
 /* Checks a pattern. out (3): its places, depth and groups. Refusals: 1 to 8. */
@@ -70,17 +70,19 @@ uint32_t toj_piece(const uint8_t *template_, size_t template_len, const uint8_t 
                    const uint16_t *table, size_t table_len, size_t number, uint64_t *out, size_t out_len);
 
 /* Builds the machine of a pattern into `machine` (toj_machine_numbers() numbers or more), for search
- * if `search` is not 0, else for whole matches. out (3): as toj_check. Refusals: 1 to 8. */
+ * if `search` is not 0, else for whole matches. out (3): the machine's places and depth, which for
+ * whole matches are the pattern's, and the pattern's groups. Refusals: 1 to 8. */
 uint32_t toj_build(const uint8_t *pattern, size_t pattern_len, uint32_t search,
                    uint16_t *machine, size_t machine_len, uint64_t *out, size_t out_len);
 
 /* Runs a built machine over a line: out, `table` and the answer as toj_match or toj_search, by what
- * the machine was built for. `scratch` (toj_scratch_numbers() numbers or more) may hold anything and
- * is left so. Refusals: 11, 12, 14.
+ * the machine was built for. `seen`, `taken`, `one` and `other` (toj_scratch_numbers() numbers or
+ * more each) may hold anything before and after. Refusals: 11, 12, 14.
  * REQUIRES: `machine` is as toj_build, answering TOJ_ANSWERED, left it for this very pattern. */
 uint32_t toj_run(const uint8_t *pattern, size_t pattern_len, const uint16_t *machine, size_t machine_len,
-                 const uint8_t *line, size_t line_len, uint16_t *scratch, size_t scratch_len,
-                 uint16_t *table, size_t table_len, uint64_t *out, size_t out_len);
+                 const uint8_t *line, size_t line_len, uint16_t *seen, size_t seen_len,
+                 uint16_t *taken, size_t taken_len, uint16_t *one, size_t one_len,
+                 uint16_t *other, size_t other_len, uint16_t *table, size_t table_len, uint64_t *out, size_t out_len);
 
 #ifdef __cplusplus
 }

@@ -79,8 +79,14 @@ mod c {
             machine_len: usize,
             line: *const u8,
             line_len: usize,
-            scratch: *mut u16,
-            scratch_len: usize,
+            seen: *mut u16,
+            seen_len: usize,
+            taken: *mut u16,
+            taken_len: usize,
+            one: *mut u16,
+            one_len: usize,
+            other: *mut u16,
+            other_len: usize,
             table: *mut u16,
             table_len: usize,
             out: *mut u64,
@@ -117,8 +123,16 @@ limits! {
     table_numbers = toj_table_numbers;
     /// The length of a built machine, in 16-bit numbers.
     machine_numbers = toj_machine_numbers;
-    /// The length of the memory that a machine is run in, in 16-bit numbers.
-    scratch_numbers = toj_scratch_numbers;
+    /// The length of each of the memories that a machine is run in, in 16-bit numbers.
+    part_numbers = toj_scratch_numbers;
+}
+
+/// How many memories a machine is run in.
+const PARTS: usize = 4;
+
+/// The length of all of them together.
+pub fn scratch_numbers() -> usize {
+    PARTS * part_numbers()
 }
 
 pub fn check(pattern: &[u8], out: &mut [u64]) -> u32 {
@@ -224,7 +238,12 @@ impl Machine {
         &self.pattern
     }
 
+    /// Runs it in a scratch of `scratch_numbers()` numbers, whose quarters are the four memories.
     pub fn run(&self, line: &[u8], scratch: &mut [u16], table: &mut [u16], out: &mut [u64]) -> u32 {
+        let part = scratch.len() / PARTS;
+        let (seen, rest) = scratch.split_at_mut(part);
+        let (taken, rest) = rest.split_at_mut(part);
+        let (one, other) = rest.split_at_mut(part);
         // Safe: the machine is as `build` left it for this very pattern, by what `Machine` says of its fields.
         unsafe {
             c::toj_run(
@@ -234,8 +253,14 @@ impl Machine {
                 self.numbers.len(),
                 line.as_ptr(),
                 line.len(),
-                scratch.as_mut_ptr(),
-                scratch.len(),
+                seen.as_mut_ptr(),
+                seen.len(),
+                taken.as_mut_ptr(),
+                taken.len(),
+                one.as_mut_ptr(),
+                one.len(),
+                other.as_mut_ptr(),
+                other.len(),
                 table.as_mut_ptr(),
                 table.len(),
                 out.as_mut_ptr(),

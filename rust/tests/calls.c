@@ -78,7 +78,7 @@ static void build_and_run(uint16_t *table, size_t numbers)
 {
     size_t machine_numbers = toj_machine_numbers(), scratch_numbers = toj_scratch_numbers();
     uint16_t *machine = calloc(machine_numbers, sizeof *machine);
-    uint16_t *scratch = calloc(scratch_numbers, sizeof *scratch);
+    uint16_t *scratch = calloc(4 * scratch_numbers, sizeof *scratch);
     uint64_t out[3];
 
     for (uint32_t search = 0; search < 2; search++) {
@@ -86,7 +86,8 @@ static void build_and_run(uint16_t *table, size_t numbers)
         expect("groups", out[2], 1);
         expect("run",
                toj_run(pattern, sizeof pattern, machine, machine_numbers, bytes("aab"), 3, scratch, scratch_numbers,
-                       table, numbers, out, 3),
+                       scratch + scratch_numbers, scratch_numbers, scratch + 2 * scratch_numbers, scratch_numbers,
+                       scratch + 3 * scratch_numbers, scratch_numbers, table, numbers, out, 3),
                TOJ_ANSWERED);
         expect("found", out[0], search);
         expect("end of row 1", table[3], search ? 2 : TOJ_ABSENT);
