@@ -7,13 +7,14 @@ use mathlib.Core.List.{List, [], _∷_}
 use mathlib.Core.Option.{Option}
 use Rattle.paper.specs.Limits.{patternBytes, patternLevels, patternGroups, patternPlaces, templateBytes, lineBytes, tableNumbers, stepLimit}
 use Rattle.paper.specs.Refusal.{Checked, refused, accepted, _>>=_, _>>_, holds}
-use Rattle.paper.specs.Refusal.{patternTooLong, brokenRecord, setWrong, repeatWrong, tooDeep, tooManyGroups, tooManyPlaces, templateWrong, lineTooLong, tableTooShort, tooManySteps, rowWrong}
+use Rattle.paper.specs.Refusal.{patternTooLong, brokenRecord, setWrong, repeatWrong, tooDeep, tooManyGroups, tooManyPlaces, templateWrong, referenceTooHigh, lineTooLong, tableTooShort, outputTooLong, tooManySteps, rowWrong}
 use Rattle.paper.specs.Pattern.{Pattern, allPlaces, groups}
 use Rattle.paper.specs.Layout.{Kind, nothingKind, emptyKind, bytesKind, groupKind, sequenceKind, alternationKind, repeatKind, kinds, kindNumber}
 use Rattle.paper.specs.Check.{numberAt, bodyLength, kindAt, bodyStart, bodyEnd, part, setRight, repeatHead, repeatNumbersRight, Walk, kindAmong, header, single, walkAll, atLeastTwo, several, body, walkRecord, patternOf, numbersOf, check, rangesOf, upperOf, modeOf}
 use Rattle.paper.specs.Rows.{Rows, rowStart, rowEnd}
 use Rattle.paper.specs.Match.{wholeMatch, search, matchSteps, searchSteps, lineAndTable, counted, Found, matchCall, searchCall, told}
-use Rattle.paper.specs.Template.{Piece, literal, reference, literalKind, referenceKind, literalAt, referenceAt, pieceOfKind, pieceAt, piecesFrom, templateOf}
+use Rattle.paper.specs.Template.{Piece, literal, reference, literalKind, referenceKind, literalAt, referenceAt, pieceOfKind, pieceAt, piecesFrom, templateOf, within}
+use Rattle.paper.specs.Replace.{replaceAll, replaceCall, Replaced, replaceAnswer}
 use Rattle.paper.specs.Piece.{isAbsent, spanOf, spanAt, rowSpan, pieceCall, Span, fromLine}
 use lib.Dec.{leb, ltb, eqb}
 use lib.ListN.{length}
@@ -183,8 +184,29 @@ span-named (literal at start end ∷ rest) zero size table = yes
 span-named (reference at row ∷ rest) zero size table = row-named size (rowStart row table) (rowEnd row table)
 span-named (piece ∷ rest) (suc n) size table = span-named rest n size table
 
+template-named : (bs : List ℕ) → Named (templateOf bs)
+template-named bs = asked (leb (length bs) templateBytes) templateWrong 0 (omega arith) (omega arith) (pieces-named (length bs) bs 0)
+
 -- the refusals of a piece
 pub piece-numbered : (template line table : List ℕ) (n : ℕ) → Numbered (pieceCall template line table n)
 piece-numbered template line table n =
-    then (asked (leb (length template) templateBytes) templateWrong 0 (omega arith) (omega arith) (pieces-named (length template) template 0))
-    (λ pieces. after (line-named line table) (span-named pieces n (length line) table)) .numbered
+    then (template-named template) (λ pieces. after (line-named line table) (span-named pieces n (length line) table)) .numbered
+
+within-named : (pieces : List Piece) (many : ℕ) → Named (within pieces many)
+within-named [] many = yes
+within-named (literal at start end ∷ rest) many = within-named rest many
+within-named (reference at row ∷ rest) many = asked (leb row many) referenceTooHigh at (omega arith) (omega arith) (within-named rest many)
+
+replacing-named : (pattern template line buffer : List ℕ) → Named (replaceCall pattern template line buffer)
+replacing-named pattern template line buffer =
+    then (pattern-named pattern) (λ e. then (template-named template) (λ pieces.
+    after (within-named pieces (groups e))
+    (asked (leb (length line) lineBytes) lineTooLong 0 (omega arith) (omega arith)
+    (asked (leb (length (replaceAll e template pieces line .output)) (length buffer)) outputTooLong 0 (omega arith) (omega arith)
+    (yes {a = replaceAll e template pieces line})))))
+
+-- the refusals of replace-all
+pub replace-numbered : (pattern template line buffer : List ℕ) → Numbered (replaceAnswer (replaceCall pattern template line buffer))
+replace-numbered pattern template line buffer =
+    then (replacing-named pattern template line buffer)
+    (λ s. yes {A = Replaced} {a = record { length = length (s .output); replaced = s .replaced; steps = s .steps }}) .numbered

@@ -13,7 +13,10 @@ use Rattle.matcher.specs.declared.Built.{Built}
 use Rattle.matcher.specs.declared.Built.the-variants.{Refused, Machine}
 use Rattle.matcher.specs.Answer as found
 use Rattle.matcher.specs.Promise.{Matches, Searches, Answers}
-use Rattle.exports.specs.Told.{tooShort, Tells, checkNumbers, foundNumbers, spanNumbers}
+use Rattle.replacer.specs.declared.Replaced as replacing
+use Rattle.replacer.specs.Answer as replaced
+use Rattle.replacer.specs.Promise.{Replaces}
+use Rattle.exports.specs.Told.{tooShort, Tells, checkNumbers, foundNumbers, spanNumbers, replacedNumbers}
 use Rattle.exports.specs.Memory.{machineNumbers, scratchNumbers, searchesIn, shortest, BuildsIn}
 
 -- refused as too short, `out` as it was
@@ -34,6 +37,12 @@ pub record MatchReplies (pattern line table table′ out : List ℕ) (status : �
 pub record SearchReplies (pattern line table table′ out : List ℕ) (status : ℕ) (after : List ℕ) : Type 0 where
   pub short : length out < 2 → Untouched out status after × (table′ ≡ table)
   pub told : 2 ≤ length out → (r : matching.Answer) × Searches pattern line table r table′ × Tells (foundNumbers (found.answerOf r)) out status after
+
+-- `toj_replace`: an answer that replace-all promises, with the buffer afterwards, told
+pub record ReplaceReplies (pattern template line buffer buffer′ out : List ℕ) (status : ℕ) (after : List ℕ) : Type 0 where
+  pub short : length out < 3 → Untouched out status after × (buffer′ ≡ buffer)
+  pub told : 3 ≤ length out
+      → (r : replacing.Replaced) × Replaces pattern template line buffer r buffer′ × Tells (replacedNumbers (replaced.answerOf r)) out status after
 
 -- `toj_piece`: what a template record puts in, told
 pub record PieceReplies (template line table : List ℕ) (number : ℕ) (out : List ℕ) (status : ℕ) (after : List ℕ) : Type 0 where

@@ -7,6 +7,7 @@ use lib.ListN.{length, drop}
 use Rattle.paper.specs.Refusal.{Checked, refused, accepted, _>>=_}
 use Rattle.paper.specs.Check.{Numbers}
 use Rattle.paper.specs.Match.{Told}
+use Rattle.paper.specs.Replace.{Replaced}
 use Rattle.paper.specs.Piece.{Source, fromTemplate, fromLine, Span}
 
 -- the status of a call that was not refused, and of one whose lent memory is too short
@@ -61,3 +62,7 @@ sourceNumber fromLine = 1
 
 abbrev pub spanNumbers : Checked Span → Checked (List ℕ)
 spanNumbers answer = answer >>= λ s. accepted (sourceNumber (s .source) ∷ s .start ∷ s .end ∷ [])
+
+-- the output's length, the replacements and the steps
+abbrev pub replacedNumbers : Checked Replaced → Checked (List ℕ)
+replacedNumbers answer = answer >>= λ s. accepted (s .length ∷ s .replaced ∷ s .steps ∷ [])

@@ -3,8 +3,9 @@ use crate::tell::Status;
 use crate::tell::tell_checked;
 use crate::tell::tell_found;
 use crate::tell::tell_piece;
+use crate::tell::tell_replaced;
 ghost use mathlib.Core.Path.{_≡_};
-ghost use Rattle.exports.specs.Replies.{CheckReplies, MatchReplies, SearchReplies, PieceReplies};
+ghost use Rattle.exports.specs.Replies.{CheckReplies, MatchReplies, SearchReplies, ReplaceReplies, PieceReplies};
 
 // Checks a pattern, and tells its places, depth and groups.
 #[no_mangle]
@@ -37,6 +38,23 @@ pub extern "C" fn toj_search(pattern: &[u8], line: &[u8], table: &mut [u16], out
         return Status::SHORT;
     }
     tell_found(matcher::search(pattern, line, table), out)
+}
+
+// Replaces every match in the line by the template, and tells the output's length, the replacements and the steps.
+#[no_mangle]
+pub extern "C" fn toj_replace(
+    pattern: &[u8],
+    template: &[u8],
+    line: &[u8],
+    buffer: &mut [u8],
+    out: &mut [u64],
+) -> u32
+    ensures { λ r. ⌜ ReplaceReplies (now (pattern .entry)) (now (template .entry)) (now (line .entry)) (now (buffer .entry)) (now (buffer .exit)) (now (out .entry)) r (now (out .exit)) ⌝ }
+{
+    if out.len() < 3 {
+        return Status::SHORT;
+    }
+    tell_replaced(replacer::replace_all(pattern, template, line, buffer), out)
 }
 
 // Tells which bytes a template record puts in: their source, start and end.

@@ -7,7 +7,8 @@ ghost use Rattle.paper.specs.Refusal.{refused, accepted};
 ghost use Rattle.pattern.specs.Answer as checked;
 ghost use Rattle.matcher.specs.Answer as found;
 ghost use Rattle.template.specs.Answer as piece;
-ghost use Rattle.exports.specs.Told.{answered, tooShort, Numbered, Tells, checkNumbers, foundNumbers, spanNumbers};
+ghost use Rattle.replacer.specs.Answer as replaced;
+ghost use Rattle.exports.specs.Told.{answered, tooShort, Numbered, Tells, checkNumbers, foundNumbers, spanNumbers, replacedNumbers};
 ghost use Rattle.exports.specs.Replies.{builtNumbers};
 
 // The two statuses that are no refusal's number.
@@ -85,6 +86,21 @@ pub fn tell_piece(answer: template::Answer, out: &mut [u64]) -> u32
         template::Answer::Refused { number, place } => refusal(number, place, out),
         template::Answer::Template { start, end } => three(0, start, end, out),
         template::Answer::Line { start, end } => three(1, start, end, out),
+    }
+}
+
+// What replace-all answered.
+pub fn tell_replaced(answer: replacer::Replaced, out: &mut [u64]) -> u32
+    requires { ⌜ Numbered (replaced.answerOf answer) × (3 ≤ length (now out)) ⌝ }
+    ensures { λ r. ⌜ Tells (replacedNumbers (replaced.answerOf answer)) (now (out .entry)) r (now (out .exit)) ⌝ }
+{
+    match answer {
+        replacer::Replaced::Refused { number, place } => refusal(number, place, out),
+        replacer::Replaced::Done {
+            length,
+            replacements,
+            steps,
+        } => three(length, replacements, steps as usize, out),
     }
 }
 
