@@ -289,6 +289,142 @@ pub fn find_in(
     }
 }
 
+// What replace-all answers, with the output that stands at the buffer's front.
+fn replaced(out: &mut [u8], at: usize, answer: replacer::Replaced, buffer: &[u8]) -> usize
+    ensures { λ r. ⌜ r ≤ length (now (out .entry)) ⌝ }
+{
+    match answer {
+        replacer::Replaced::Refused {
+            number: refused,
+            place,
+        } => printer::refusal(out, at, refused, place, false),
+        replacer::Replaced::Done {
+            length,
+            replacements,
+            steps,
+        } => {
+            let mut n = output(out, at, buffer, length);
+            n = number(out, n, length);
+            n = number(out, n, replacements);
+            n = printer::bytes(out, n, b" ", false);
+            printer::decimal(out, n, steps, false)
+        }
+    }
+}
+
+// The first bytes of a buffer.
+fn output(out: &mut [u8], at: usize, buffer: &[u8], long: usize) -> usize
+    ensures { λ r. ⌜ r ≤ length (now (out .entry)) ⌝ }
+{
+    if long <= buffer.len() {
+        printer::byte_string(out, at, &buffer[0..long])
+    } else {
+        printer::bytes(out, at, b"", false)
+    }
+}
+
+// Every byte of a buffer made the same, so that what a call leaves of it can be told.
+fn fill(buffer: &mut [u8]) {
+    let mut i = 0;
+    while i < buffer.len() {
+        buffer[i] = b'#';
+        i += 1;
+    }
+}
+
+// Whether the bytes of a buffer behind the output are as they were filled.
+fn kept(buffer: &[u8], from: usize) -> bool {
+    let mut i = from;
+    while i < buffer.len() {
+        if buffer[i] != b'#' {
+            return false;
+        }
+        i += 1;
+    }
+    true
+}
+
+// Where the bytes of a buffer must be as they were: behind the output, or all of them.
+fn written(answer: replacer::Replaced) -> usize {
+    match answer {
+        replacer::Replaced::Refused {
+            number: _,
+            place: _,
+        } => 0,
+        replacer::Replaced::Done {
+            length,
+            replacements: _,
+            steps: _,
+        } => length,
+    }
+}
+
+// What is said where a byte behind the output is not as it was.
+fn print_kept(out: &mut [u8], at: usize, same: bool) -> usize
+    ensures { λ r. ⌜ r ≤ length (now (out .entry)) ⌝ }
+{
+    if same {
+        printer::bytes(out, at, b"", false)
+    } else {
+        printer::bytes(out, at, b" buffer changed", false)
+    }
+}
+
+// Replace-all in a buffer of the length that the case gives.
+fn replace_at(
+    query: &[u8],
+    bytes: &[u8],
+    parts: &[u8],
+    line: &[u8],
+    buffer: &mut [u8],
+    out: &mut [u8],
+    at: usize,
+) -> usize {
+    fill(buffer);
+    let answer = replacer::replace_all(bytes, parts, line, buffer);
+    let mut n = case(out, at, query);
+    n = replaced(out, n, answer, buffer);
+    n = print_kept(out, n, kept(buffer, written(answer)));
+    end_line(out, n)
+}
+
+// replace PATTERN TEMPLATE LINE ROOM
+pub fn replace(
+    query: &[u8],
+    word: usize,
+    store: &mut [u8],
+    room: &mut [u8],
+    out: &mut [u8],
+    at: usize,
+) -> usize
+    requires { ⌜ word ≤ length (now query) ⌝ }
+{
+    let read = fields::read_three(query, word, store);
+    let one = read.one;
+    let two = read.two;
+    let three = read.three;
+    let count = fields::number_after(query, read.next);
+    let value = count.value;
+    if fields::ended(
+        query,
+        read.whole && count.whole && value <= room.len(),
+        count.next,
+    ) {
+        if value <= room.len() {
+            return replace_at(
+                query,
+                &store[0..one],
+                &store[one..two],
+                &store[two..three],
+                &mut room[0..value],
+                out,
+                at,
+            );
+        }
+    }
+    bad_line(out, at)
+}
+
 // What a piece is, and the part itself.
 fn pieced(out: &mut [u8], at: usize, answer: template::Answer, part: &[u8]) -> usize
     ensures { λ r. ⌜ r ≤ length (now (out .entry)) ⌝ }

@@ -131,6 +131,9 @@ fn answer(
     if call == TABLE_SEARCH {
         return calls::find_in(query, end, true, store, table, out, at);
     }
+    if call == REPLACE {
+        return calls::replace(query, end, store, room, out, at);
+    }
     if call == PIECE {
         return calls::piece(query, end, store, table, out, at);
     }
