@@ -249,7 +249,7 @@ fn find(
 }
 
 // Writes rows to the front of a table.
-fn fill(table: &mut [u16], rows: [u16; Spans::NUMBERS])
+pub fn fill(table: &mut [u16], rows: [u16; Spans::NUMBERS])
     requires { ⌜ tableNumbers ≤ length (now table) ⌝ }
     ensures { λ _. ⌜ now (table .exit) ≡ rows ++ drop tableNumbers (now (table .entry)) ⌝ }
 {
