@@ -7,8 +7,15 @@
 // A pattern is made as a tree, and written both as records and as a regular expression over characters 0 to 255.
 // A whole match is ^(?:...)$, a search is exec with indices. Replace-all is compared where its rule on an empty match
 // behind a match and ECMA-262's agree: where no suppressed match occurs.
+//
+// The engine goes back over its choices, and on some patterns it would take hours for a line of twelve bytes. Each of its
+// answers has a second; a case on which it takes longer is counted as unfinished and compared with nothing.
 import { spawnSync } from 'node:child_process';
 import { readFileSync } from 'node:fs';
+import vm from 'node:vm';
+
+const PATIENCE = 1000; // milliseconds that the engine has for a case
+const BATCH = 10000; // cases that replay is given at a time
 
 // A small generator of random numbers, the same for the same seed everywhere.
 function randomFrom(seed) {
@@ -200,7 +207,22 @@ function engineReplace(e, parts, line) {
     return { differs, answer: hex([...Buffer.from(replaced, 'latin1')]) + ' ' + replaced.length + ' ' + count };
 }
 
-const counts = { cases: 0, matched: 0, absent: 0, emptyInside: 0, replaced: 0, skipped: 0, differences: 0 };
+// What the engine answers within its time, or null.
+const trial = vm.createContext({});
+const ask = new vm.Script('work()');
+function inTime(work) {
+    trial.work = work;
+    try {
+        return ask.runInContext(trial, { timeout: PATIENCE });
+    } catch (error) {
+        if (error.code === 'ERR_SCRIPT_EXECUTION_TIMEOUT') return null;
+        throw error;
+    }
+}
+
+// Cases asked and compared; of those compared, the matches, those with an absent group, those with a repeat whose body can be empty
+// inside another, and the replacements; those not compared, by the reason; and the differences.
+const counts = { cases: 0, compared: 0, matched: 0, absent: 0, emptyInside: 0, replaced: 0, refused: 0, suppressed: 0, unfinished: 0, differences: 0 };
 
 function report(line, wanted) {
     counts.differences += 1;
@@ -209,21 +231,22 @@ function report(line, wanted) {
 
 // Holds one answered case to the engine. Steps are the machine's own and are not compared.
 function compare(line) {
+    counts.cases += 1;
     const [query, answer] = line.split(' -> ');
     const [call, patternHex, second, third] = query.split(' ');
-    if (answer === undefined || answer.startsWith('refused')) { counts.skipped += 1; return; }
+    if (answer === undefined || answer.startsWith('refused')) { counts.refused += 1; return; }
     const e = treeOf(unhex(patternHex)).tree;
-    counts.cases += 1;
+    const wanted = inTime(() => call === 'replace' ? engineReplace(e, partsOf(unhex(second)), unhex(third)) : engineRows(call, e, unhex(second)));
+    if (wanted === null) { counts.unfinished += 1; return; }
+    if (wanted.differs) { counts.suppressed += 1; return; }
+    counts.compared += 1;
     if (emptyInside(e)) counts.emptyInside += 1;
     if (call === 'replace') {
-        const wanted = engineReplace(e, partsOf(unhex(second)), unhex(third));
-        if (wanted.differs) { counts.skipped += 1; return; }
         counts.replaced += 1;
         if (!answer.startsWith(wanted.answer + ' ')) report(line, wanted.answer);
         return;
     }
     const rows = answer.startsWith('none') ? 'none' : answer.split(' ').slice(2).join(' ');
-    const wanted = engineRows(call, e, unhex(second));
     if (rows !== wanted) report(line, wanted);
     if (rows !== 'none') {
         counts.matched += 1;
@@ -242,43 +265,52 @@ function partsOf(bs) {
     return parts;
 }
 
-// Random cases as queries.
-function makeCases(total, seed) {
+// Random cases as queries, one after the other.
+function* makeCases(seed) {
     const random = randomFrom(seed);
-    const queries = [];
-    while (queries.length < total) {
+    for (;;) {
         const e = makeTree(random, 4);
         if (groupsOf(e) > 9 || placesOf(e) + 1 > 500 || bytesOf(e).length > 4096) continue;
-        for (let i = 0; i < 4 && queries.length < total; i++) {
+        for (let i = 0; i < 4; i++) {
             const line = makeLine(random, e);
             const r = random();
             const call = r < 0.55 ? 'match' : r < 0.9 ? 'search' : 'replace';
             const rest = call === 'replace' ? hex(templateBytes(makeTemplate(random, groupsOf(e)))) + ' ' + hex(line) + ' 400' : hex(line);
-            queries.push(call + ' ' + hex(bytesOf(e)) + ' ' + rest);
+            yield call + ' ' + hex(bytesOf(e)) + ' ' + rest;
         }
     }
-    return queries;
 }
 
 function runReplay(program, queries) {
     const run = spawnSync(program, { input: queries.join('\n') + '\n', maxBuffer: 1 << 30 });
     if (run.error) throw run.error;
-    return run.stdout.toString().trimEnd().split('\n');
+    const answered = run.stdout.toString().trimEnd().split('\n');
+    if (answered.length !== queries.length) throw new Error('replay printed ' + answered.length + ' lines for ' + queries.length);
+    return answered;
+}
+
+// Random cases in batches, each with replay's answers.
+function inBatches(program, total, seed, each) {
+    const cases = makeCases(seed);
+    for (let done = 0; done < total;) {
+        const queries = Array.from({ length: Math.min(BATCH, total - done) }, () => cases.next().value);
+        runReplay(program, queries).forEach((line, i) => each(line, queries[i]));
+        done += queries.length;
+        console.error(done + ' of ' + total + ', differences ' + counts.differences);
+    }
 }
 
 const args = process.argv.slice(2);
 if (args[0] === '--answered') {
     for (const line of readFileSync(args[1], 'utf8').split('\n')) if (/^(match|search|replace) /.test(line)) compare(line);
 } else if (args[0] === '--write') {
-    for (const line of runReplay(args[1], makeCases(Number(args[2]), Number(args[3])))) console.log(line);
+    inBatches(args[1], Number(args[2]), Number(args[3]), (line) => console.log(line));
     process.exit(0);
 } else if (args.length >= 1) {
     const seed = Number(args[2] ?? 1);
-    const queries = makeCases(Number(args[1] ?? 100000), seed);
-    const answered = runReplay(args[0], queries);
-    if (answered.length !== queries.length) throw new Error('replay printed ' + answered.length + ' lines for ' + queries.length);
-    answered.forEach((line, i) => line.startsWith(queries[i] + ' -> ') ? compare(line) : report(line, queries[i]));
-    console.log('seed ' + seed + ', engine ' + process.version);
+    const started = Date.now();
+    inBatches(args[0], Number(args[1] ?? 100000), seed, (line, query) => line.startsWith(query + ' -> ') ? compare(line) : report(line, query));
+    console.log('seed ' + seed + ', engine ' + process.version + ', ' + Math.round((Date.now() - started) / 1000) + ' s');
 } else {
     console.log('usage: node scripts/compare.mjs REPLAY [CASES [SEED]]');
     process.exit(2);
