@@ -11,6 +11,7 @@ ghost use Rattle.paper.specs.Refusal.{patternTooLong, brokenRecord, unknownKind
 ghost use Rattle.paper.specs.Pattern.{greedy, lazy};
 ghost use Rattle.paper.specs.Layout.{kinds, kindNumber, modeNumber};
 ghost use Rattle.paper.specs.Rows.{noRows};
+ghost use Rattle.paper.specs.Tables.{forkPlace, openPlace, closePlace, beginPlace, beginOptionalPlace, endPlace, setPlace, anyPlace, stopPlace, acceptPlace};
 ghost use Rattle.pattern.specs.Answer.{Checks};
 
 // The limits of a pattern.
@@ -137,6 +138,49 @@ impl Kind {
             Kind::SEQUENCE,
             Kind::ALTERNATION,
             Kind::REPEAT,
+        ]
+    }
+}
+
+// The kinds of place, as their numbers stand in a table of places. Those before SET lead on at once; the others do not.
+pub struct PlaceKind {}
+
+impl PlaceKind {
+    pub const FORK: u16 = 0;
+
+    pub const OPEN: u16 = 1;
+
+    pub const CLOSE: u16 = 2;
+
+    pub const BEGIN: u16 = 3;
+
+    pub const BEGIN_OPTIONAL: u16 = 4;
+
+    pub const END: u16 = 5;
+
+    pub const SET: u16 = 6;
+
+    pub const ANY: u16 = 7;
+
+    pub const STOP: u16 = 8;
+
+    pub const ACCEPT: u16 = 9;
+
+    // The numbers above are `paper`'s.
+    pub fn all() -> [u16; 10]
+        ensures { λ r. ⌜ r ≡ forkPlace ∷ openPlace ∷ closePlace ∷ beginPlace ∷ beginOptionalPlace ∷ endPlace ∷ setPlace ∷ anyPlace ∷ stopPlace ∷ acceptPlace ∷ [] ⌝ }
+    {
+        [
+            PlaceKind::FORK,
+            PlaceKind::OPEN,
+            PlaceKind::CLOSE,
+            PlaceKind::BEGIN,
+            PlaceKind::BEGIN_OPTIONAL,
+            PlaceKind::END,
+            PlaceKind::SET,
+            PlaceKind::ANY,
+            PlaceKind::STOP,
+            PlaceKind::ACCEPT,
         ]
     }
 }
