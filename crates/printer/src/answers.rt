@@ -85,3 +85,37 @@ pub fn outcome(
         decimal(out, n, steps, coded)
     }
 }
+
+// What a whole match or a search answers: a refusal, or what it found.
+pub fn found(
+    out: &mut [u8],
+    at: usize,
+    answer: matcher::Answer,
+    table: [u16; Spans::NUMBERS],
+    groups: usize,
+    coded: bool,
+) -> usize
+    ensures { λ r. ⌜ r ≤ length (now (out .entry)) ⌝ }
+{
+    match answer {
+        matcher::Answer::Refused { number, place } => refusal(out, at, number, place, coded),
+        matcher::Answer::Match { steps } => outcome(
+            out,
+            at,
+            true,
+            steps as u64,
+            table,
+            groups,
+            coded,
+        ),
+        matcher::Answer::NoMatch { steps } => outcome(
+            out,
+            at,
+            false,
+            steps as u64,
+            table,
+            groups,
+            coded,
+        ),
+    }
+}

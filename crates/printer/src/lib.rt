@@ -3,6 +3,7 @@
 // Where `coded` is true, each byte is printed as its two hexadecimal digits.
 mod answers;
 
+pub use answers::found;
 pub use answers::outcome;
 pub use answers::refusal;
 pub use answers::row;

@@ -94,46 +94,6 @@ fn call(searches: bool, bytes: &[u8], line: &[u8], table: &mut [u16]) -> matcher
     }
 }
 
-// What a whole match or a search answers, with its rows.
-fn found(
-    out: &mut [u8],
-    at: usize,
-    answer: matcher::Answer,
-    rows: [u16; Spans::NUMBERS],
-    groups: usize,
-    coded: bool,
-) -> usize
-    ensures { λ r. ⌜ r ≤ length (now (out .entry)) ⌝ }
-{
-    match answer {
-        matcher::Answer::Refused { number, place } => printer::refusal(
-            out,
-            at,
-            number,
-            place,
-            coded,
-        ),
-        matcher::Answer::Match { steps } => printer::outcome(
-            out,
-            at,
-            true,
-            steps as u64,
-            rows,
-            groups,
-            coded,
-        ),
-        matcher::Answer::NoMatch { steps } => printer::outcome(
-            out,
-            at,
-            false,
-            steps as u64,
-            rows,
-            groups,
-            coded,
-        ),
-    }
-}
-
 // A match or a search, lent a table of just the numbers that a call asks for.
 fn find_at(
     query: &[u8],
@@ -146,7 +106,7 @@ fn find_at(
     let mut table = Spans::absent_table();
     let answer = call(searches, bytes, line, &mut table);
     let mut n = case(out, at, query);
-    n = found(out, n, answer, table, groups_of(bytes), false);
+    n = printer::found(out, n, answer, table, groups_of(bytes), false);
     end_line(out, n)
 }
 

@@ -1,3 +1,4 @@
+-- `job::next_record` meets its contract: a record is told only where its header is whole, and then it lies between the offset and the stop.
 use native.Mathlib.Omega.{arith}
 use borrow.Author.Needs.{needs}
 use Rattle.job.proofs.next_record.Statement.{statement}

@@ -1,3 +1,4 @@
+-- `pick::keep` meets its contract: it stops where either side ends.
 use Prim.Native.Nat.{_≤_, _<_, _+_, _*_, _-_}
 use mathlib.Core.Path.{_≡_}
 use lib.ListN.{length}

@@ -1,3 +1,4 @@
+-- `pick::next_line` meets its contract: the record that was found lies in the window, and the machine is as ready for it as for any line.
 use native.Mathlib.Omega.{arith}
 use lib.ListN.{length-take, length-drop}
 use borrow.Author.Needs.{needs}

@@ -1,3 +1,4 @@
+-- `pick::whole_job` is safe and ends: the pattern's record lies in the window, and what is kept of it in a buffer of its own.
 use native.Mathlib.Omega.{arith}
 use borrow.Author.Needs.{needs}
 use Rattle.pick.proofs.whole_job.Statement.{statement}

@@ -1,3 +1,4 @@
+-- `pick::with_pattern` is safe and ends: the machine that was built is ready, and the tables are as long as it needs.
 use Rattle.matcher.proofs.Wiring.{ready-scratch}
 use borrow.Author.Needs.{needs}
 use Rattle.pick.proofs.with_pattern.Statement.{statement}

@@ -1,3 +1,4 @@
+-- `printer::coded_all` meets its contract: what is gathered never passes the buffer, and each turn puts out one byte of the slice.
 use Prim.Native.Nat.{_≤_, _<_, _+_, _*_, _-_}
 use mathlib.Core.Path.{_≡_}
 use lib.ListN.{length}

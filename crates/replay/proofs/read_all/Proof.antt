@@ -1,3 +1,4 @@
+-- `replay::read_all` is safe and ends: the buffers keep their lengths, and the turns are counted up.
 use Prim.Native.Nat.{_≤_, _<_, _+_, _*_, _-_}
 use mathlib.Core.Path.{_≡_}
 use lib.ListN.{length}

@@ -1,3 +1,4 @@
+-- `replay::word_end` meets its contract: it stops inside the query or at its end.
 use Prim.Native.Nat.{_≤_, _<_, _+_, _*_, _-_}
 use mathlib.Core.Path.{_≡_}
 use lib.ListN.{length}

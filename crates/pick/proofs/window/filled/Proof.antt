@@ -1,3 +1,4 @@
+-- `window::filled` meets its contract: each reading leaves the window inside the buffer, and the turns fall.
 use Prim.Native.Nat.{_≤_, _<_, _+_, _*_, _-_}
 use mathlib.Core.Path.{_≡_}
 use lib.ListN.{length}

@@ -1,3 +1,4 @@
+-- `window::moved` meets its contract: what is copied lies inside the buffer, and the bytes left to copy fall.
 use Prim.Native.Nat.{_≤_, _<_, _+_, _*_, _-_}
 use mathlib.Core.Path.{_≡_}
 use lib.ListN.{length}

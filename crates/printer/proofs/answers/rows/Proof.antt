@@ -1,3 +1,4 @@
+-- `printer::rows` meets its contract: what is gathered never passes the buffer, and no row beyond the table's last is asked for.
 use Prim.Native.Nat.{_≤_, _<_, _+_, _*_, _-_}
 use mathlib.Core.Path.{_≡_}
 use lib.ListN.{length}

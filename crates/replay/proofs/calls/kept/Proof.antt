@@ -1,3 +1,4 @@
+-- `calls::kept` is safe and ends: each turn looks at one byte of the buffer.
 use Prim.Native.Nat.{_≤_, _<_, _+_, _*_, _-_}
 use mathlib.Core.Path.{_≡_}
 use lib.ListN.{length}

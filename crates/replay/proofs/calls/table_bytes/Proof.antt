@@ -1,3 +1,4 @@
+-- `calls::table_bytes` meets its contract: what is gathered never passes the buffer, and each turn puts out one number of the table.
 use Prim.Native.Nat.{_≤_, _<_, _+_, _*_, _-_}
 use mathlib.Core.Path.{_≡_}
 use lib.ListN.{length}

@@ -1,3 +1,4 @@
+-- `jobs::one_line` meets its contract: whatever comes next, the offset goes forward and not past the job's end.
 use native.Mathlib.Omega.{arith}
 use borrow.Author.Needs.{needs}
 use Rattle.replay.proofs.jobs.one_line.Statement.{statement}

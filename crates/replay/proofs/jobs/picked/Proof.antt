@@ -1,3 +1,4 @@
+-- `jobs::picked` is safe and ends: the pattern's record lies in the job.
 use native.Mathlib.Omega.{arith}
 use borrow.Author.Needs.{needs}
 use Rattle.replay.proofs.jobs.picked.Statement.{statement}
