@@ -4,14 +4,15 @@ use pattern::Spans;
 ghost use Prim.Native.Nat.{_≤_};
 ghost use lib.ListN.{length};
 
-// Checking a pattern.
-pub fn checked(out: &mut [u8], at: usize, bytes: &[u8]) -> usize
+// Checking a pattern, behind the case's title.
+pub fn checked(out: &mut [u8], at: usize, title: &[u8], bytes: &[u8]) -> usize
     ensures { λ r. ⌜ r ≤ length (now (out .entry)) ⌝ }
 {
+    let n = words::case(out, at, title);
     match pattern::check(bytes) {
         pattern::Answer::Refused { number, place } => job::print_refused(
             out,
-            at,
+            n,
             number,
             place,
             false,
@@ -20,7 +21,7 @@ pub fn checked(out: &mut [u8], at: usize, bytes: &[u8]) -> usize
             places,
             depth,
             groups,
-        } => job::print_numbers(out, at, places, depth, groups, false),
+        } => job::print_numbers(out, n, places, depth, groups, false),
     }
 }
 

@@ -1,5 +1,6 @@
 // Each limit of 01 by a case just inside it and one just outside.
 use crate::answers;
+use crate::answers::checked;
 use crate::made;
 use crate::words;
 use pattern::Line;
@@ -7,21 +8,15 @@ use pattern::Pattern;
 use pattern::Spans;
 use pattern::Template;
 
-// The empty string twice, a group that holds it, and a literal's bytes.
+// What long patterns, templates and lines are made of: the empty string twice, a group that holds it, and letters.
 const EMPTIES: [u8; 8] = [0, 0, 1, 0, 0, 0, 1, 0];
 
 const GROUP: [u8; 8] = [4, 0, 3, 0, 0, 0, 1, 0];
 
 const LETTERS: [u8; 8] = [b'x'; 8];
 
-// The bytes of as many levels: all but the innermost have ten before their inner record.
+// The bytes of 16 levels: each but the innermost has ten before its inner record, and that one has four.
 const LEVELS: usize = 10 * (Pattern::LEVELS - 1) + 4;
-
-// A pattern that is checked, on a line of its own.
-fn checked(out: &mut [u8], at: usize, title: &[u8], pattern: &[u8]) -> usize {
-    let n = words::case(out, at, title);
-    answers::checked(out, n, pattern)
-}
 
 // 4,096 bytes: a sequence of empty strings.
 fn bytes(out: &mut [u8], at: usize) -> usize {
@@ -129,11 +124,15 @@ fn template_of(out: &mut [u8], at: usize, title: &[u8], template: &[u8]) -> usiz
     answers::replaced(out, n, b"\x02\0\x02\0aa", template, b"", &mut buffer)
 }
 
-// A line of 65,534 bytes, by a*.
-fn line(out: &mut [u8], at: usize) -> usize {
-    let line = [b'a'; Line::BYTES + 1];
-    let n = line_of(out, at, b"a* on 65,534 bytes", &line[0..Line::BYTES]);
-    line_of(out, n, b"a* on 65,535 bytes", &line)
+// A line of 65,534 bytes, by x*.
+fn longest_line(out: &mut [u8], at: usize) -> usize {
+    let line = [b'x'; Line::BYTES];
+    line_of(out, at, b"x* on 65,534 bytes", &line)
+}
+
+fn line_too_long(out: &mut [u8], at: usize) -> usize {
+    let line = [b'x'; Line::BYTES + 1];
+    line_of(out, at, b"x* on 65,535 bytes", &line)
 }
 
 fn line_of(out: &mut [u8], at: usize, title: &[u8], line: &[u8]) -> usize {
@@ -141,7 +140,7 @@ fn line_of(out: &mut [u8], at: usize, title: &[u8], line: &[u8]) -> usize {
     answers::matched(
         out,
         n,
-        b"\x0c\0\x06\0\0\0\xff\xff\0\0\x02\0\x02\0aa",
+        b"\x0c\0\x06\0\0\0\xff\xff\0\0\x02\0\x02\0xx",
         line,
         0,
     )
@@ -205,7 +204,8 @@ fn of_a_pattern(out: &mut [u8], at: usize) -> usize {
 // The limits of what else a call is given.
 fn of_a_call(out: &mut [u8], at: usize) -> usize {
     let mut n = template(out, at);
-    n = line(out, n);
+    n = longest_line(out, n);
+    n = line_too_long(out, n);
     n = table(out, n);
     output(out, n)
 }

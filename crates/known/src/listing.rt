@@ -90,24 +90,38 @@ fn begin(out: &mut [u8], at: usize, words: &[u8], first: u16, count: u16) -> usi
     labelled(out, n, b" to ", wide(first) + wide(count) - 1)
 }
 
+// The begin of a pass, or its end.
+fn pass(out: &mut [u8], at: usize, kind: u16, first: u16, count: u16) -> usize
+    ensures { λ r. ⌜ r ≤ length (now (out .entry)) ⌝ }
+{
+    if kind == PlaceKind::BEGIN {
+        return begin(out, at, b"begin", first, count);
+    }
+    if kind == PlaceKind::BEGIN_OPTIONAL {
+        return begin(out, at, b"begin optional", first, count);
+    }
+    printer::bytes(out, at, b"end", false)
+}
+
+// The start of a group, or its end.
+fn group(out: &mut [u8], at: usize, kind: u16, number: u16) -> usize
+    ensures { λ r. ⌜ r ≤ length (now (out .entry)) ⌝ }
+{
+    if kind == PlaceKind::OPEN {
+        return labelled(out, at, b"open ", wide(number));
+    }
+    labelled(out, at, b"close ", wide(number))
+}
+
 // What a place does that has one follower.
 fn action(out: &mut [u8], at: usize, pattern: &[u8], kind: u16, a: u16, many: u16) -> usize
     ensures { λ r. ⌜ r ≤ length (now (out .entry)) ⌝ }
 {
-    if kind == PlaceKind::OPEN {
-        return labelled(out, at, b"open ", wide(a));
+    if kind < PlaceKind::BEGIN {
+        return group(out, at, kind, a);
     }
-    if kind == PlaceKind::CLOSE {
-        return labelled(out, at, b"close ", wide(a));
-    }
-    if kind == PlaceKind::BEGIN {
-        return begin(out, at, b"begin", a, many);
-    }
-    if kind == PlaceKind::BEGIN_OPTIONAL {
-        return begin(out, at, b"begin optional", a, many);
-    }
-    if kind == PlaceKind::END {
-        return printer::bytes(out, at, b"end", false);
+    if kind < PlaceKind::SET {
+        return pass(out, at, kind, a, many);
     }
     if kind == PlaceKind::SET {
         return set(out, at, pattern, wide(a), wide(many));

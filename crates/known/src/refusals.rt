@@ -1,13 +1,8 @@
 // The refusals that no limit gives, each by a case; and the pieces of a template. Refusal 14 is given by no call.
 use crate::answers;
+use crate::answers::checked;
 use crate::words;
 use pattern::Spans;
-
-// A pattern that is refused.
-fn checked(out: &mut [u8], at: usize, title: &[u8], pattern: &[u8]) -> usize {
-    let n = words::case(out, at, title);
-    answers::checked(out, n, pattern)
-}
 
 // Refusals 2 to 5: the second record of a sequence is wrong.
 fn records(out: &mut [u8], at: usize) -> usize {
