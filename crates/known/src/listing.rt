@@ -160,8 +160,7 @@ fn place(
 ) -> usize
     ensures { λ r. ⌜ r ≤ length (now (out .entry)) ⌝ }
 {
-    let mut n = printer::bytes(out, at, b"    ", false);
-    n = printer::decimal(out, n, number as u64, false);
+    let mut n = labelled(out, at, b"    ", number);
     n = printer::bytes(out, n, b" ", false);
     n = deed(out, n, pattern, kind, next, a, many);
     printer::bytes(out, n, b"\n", false)

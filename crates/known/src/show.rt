@@ -13,7 +13,7 @@ pub struct Shown {
     pub groups: usize,
 }
 
-// The first places of a table: as many as were built.
+// The first places of a table: as many as were built, for which it has room.
 fn listed(out: &mut [u8], at: usize, pattern: &[u8], code: &[u16], places: usize) -> usize
     ensures { λ r. ⌜ r ≤ length (now (out .entry)) ⌝ }
 {
