@@ -22,7 +22,7 @@ use Rattle.paper.proofs.Bound.{machine-turns}
 -- Forward places
 
 -- whatever may follow a place above level 0 stands behind it
-abbrev Forward : ℕ → Place → Type 0
+abbrev pub Forward : ℕ → Place → Type 0
 Forward q (set ranges next) = Unit {0}
 Forward q stop = Unit {0}
 Forward q (fork a b) = (q < a) × (q < b)
@@ -345,6 +345,9 @@ forward-places : (e : Pattern) (first : ℕ) → AllForward 0 (placesOf e first)
 forward-places e first =
     let core = writtenOut e first in
     forward-append 0 (lay core 0 (size core)) (accept ∷ []) (forward-lay core 0 (size core) (omega arith)) (tt, tt)
+
+pub places-forward : (e : Pattern) (first x : ℕ) → Forward x (getD (placesOf e first) x stop)
+places-forward e first x = subst (λ (q : ℕ). Forward q (getD (placesOf e first) x stop)) (zero-add x) (forward-at 0 (placesOf e first) x (forward-places e first))
 
 -- nested visits: from twice the places on, any numbers of turns do the same, for every thread and state
 pub visit-turns : (e : Pattern) (first : ℕ) (line : List ℕ) (p turns more : ℕ) (t : Thread) (s : State)

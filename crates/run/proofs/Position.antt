@@ -95,7 +95,7 @@ pub position-first : (code pattern line : List ℕ) (places start : ℕ) (seen t
     → (seen′ taken′ one′ : List ℕ) → seen′ ≡ replicate (length seen) 0 → taken′ ≡ replicate (length taken) 0 → one′ ≡ stored one 0 0 noRows
     → Position code pattern line places start (length seen) seen′ taken′ one′ start 1 0 false true
 position-first code pattern line places start seen taken one other asked seen′ taken′ one′ es et eo =
-    let room : 21 * 0 + 21 ≤ length one = omega (arith, asked .one-long) in
+    let room : 21 * 0 + 21 ≤ length one = omega (arith, asked .lists-long) in
     let long : length one′ ≡ length one = ap length eo ∙ stored-long one 0 0 noRows refl room in
     let place : placeIn one′ 0 ≡ 0 = ap (λ (l : List ℕ). placeIn l 0) eo ∙ stored-place one 0 0 noRows refl room in
     let rows : rowsIn one′ 0 ≡ noRows = ap (λ (l : List ℕ). rowsIn l 0) eo ∙ stored-rows one 0 0 noRows refl room in
@@ -105,7 +105,7 @@ position-first code pattern line places start seen taken one other asked seen′
       line-long = asked .line-long;
       long = ap length es ∙ length-replicate (length seen) 0;
       taken-long = ap length et ∙ (length-replicate (length taken) 0 ∙ asked .taken-long);
-      current-long = omega (arith, asked .one-long);
+      current-long = omega (arith, asked .lists-long);
       seen-under = subst (Under start) (sym es) (zero-under start (length seen));
       taken-under = subst (Under start) (sym et) (zero-under start (length taken));
       after = omega arith;

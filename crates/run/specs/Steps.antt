@@ -8,7 +8,7 @@ use Rattle.paper.specs.Limits.{lineBytes, absent}
 use Rattle.paper.specs.Rows.{Rows, noRows}
 use Rattle.paper.specs.Machine.{at, fresh, visits, run, Stopped}
 use Rattle.paper.specs.Tables.{decode}
-use Rattle.visit.specs.Threads.{threadNumbers, placeIn, threads}
+use Rattle.visit.specs.Threads.{threadNumbers, branchNumbers, placeIn, threads}
 use Rattle.visit.specs.Wired.{Wired}
 use Rattle.visit.specs.Shows.{Shows, Carried, Under}
 
@@ -34,14 +34,14 @@ pub record Steps (code pattern line : List ℕ) (places p : ℕ) (seen taken fro
   pub shows : (k : ℕ) → length seen < k
       → Shows places (p + 1) seen′ taken′ list′ count steps′ done (visits k (decode code pattern places) line p (threads from number) (fresh steps))
 
--- what a run asks: safe tables, and all of the sizes that the limits allow
-pub record Running (code pattern line : List ℕ) (places start : ℕ) (seen taken one other : List ℕ) : Type 0 where
+-- what a run asks: safe tables of the sizes that the limits allow, two lists of threads, and room for the branches that wait
+pub record Running (code pattern line : List ℕ) (places start : ℕ) (seen taken lists pending : List ℕ) : Type 0 where
   pub wired : Wired code pattern places (length seen)
   pub some : 0 < places
   pub cells : length seen < 2 ^ 16
   pub taken-long : length taken ≡ places
-  pub one-long : threadNumbers * (places + 1) ≤ length one
-  pub other-long : threadNumbers * (places + 1) ≤ length other
+  pub lists-long : 2 * (threadNumbers * (places + 1)) ≤ length lists
+  pub pending-long : branchNumbers * (2 * places) ≤ length pending
   pub line-long : length line ≤ lineBytes
   pub starts : start ≤ length line
 

@@ -102,18 +102,18 @@ pub fn run(
     line: &[u8],
     seen: &mut [u16],
     taken: &mut [u16],
-    one: &mut [u16],
-    other: &mut [u16],
+    lists: &mut [u16],
+    pending: &mut [u16],
     places: usize,
     start: u16,
 ) -> Ran
-    requires { ⌜ Running (now code) (now pattern) (now line) places start (now seen) (now taken) (now one) (now other) ⌝ }
+    requires { ⌜ Running (now code) (now pattern) (now line) places start (now seen) (now taken) (now lists) (now pending) ⌝ }
     ensures { λ r. ⌜ Runs (now (code .entry)) (now (pattern .entry)) (now (line .entry)) places start (length (now (seen .entry))) (r .matched) (r .steps) (r .rows) ⌝ }
 {
     wipe(seen);
     wipe(taken);
     let absent = [Spans::ABSENT; Spans::NUMBERS];
-    visit::store(one, 0, 0, absent);
+    visit::store(lists, 0, 0, absent);
     let mut at = start;
     let mut number = 1;
     let mut steps = 0;
@@ -128,9 +128,9 @@ pub fn run(
                 line,
                 seen,
                 taken,
-                one,
+                lists,
                 number,
-                other,
+                pending,
                 places,
                 at,
                 steps,
@@ -148,9 +148,9 @@ pub fn run(
                 line,
                 seen,
                 taken,
-                other,
+                pending,
                 number,
-                one,
+                lists,
                 places,
                 at,
                 steps,
@@ -164,14 +164,14 @@ pub fn run(
         }
     }
     if even {
-        let rows = visit::load(one, number);
+        let rows = visit::load(lists, number);
         Ran {
             matched,
             steps,
             rows,
         }
     } else {
-        let rows = visit::load(other, number);
+        let rows = visit::load(pending, number);
         Ran {
             matched,
             steps,

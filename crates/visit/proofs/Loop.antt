@@ -31,6 +31,8 @@ rewire {places = places} more e w = record {
   deeper = w .deeper;
   deeper-other = w .deeper-other;
   raised = w .raised;
+  ahead = w .ahead;
+  ahead-other = w .ahead-other;
   slots = w .slots;
   ranges = w .ranges;
 }

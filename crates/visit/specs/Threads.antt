@@ -13,6 +13,10 @@ use Rattle.paper.specs.Machine.{Thread, at}
 abbrev pub threadNumbers : ℕ
 threadNumbers = 1 + tableNumbers
 
+-- how many numbers a branch that waits has: its place, the first entry of its level, and its rows
+abbrev pub branchNumbers : ℕ
+branchNumbers = 2 + tableNumbers
+
 abbrev pub placeIn : List ℕ → ℕ → ℕ
 placeIn list i = getD list (threadNumbers * i) 0
 

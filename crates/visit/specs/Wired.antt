@@ -33,7 +33,7 @@ pub record Slots (kind a n : ℕ) : Type 0 where
 abbrev pub levelAfter : ℕ → ℕ → ℕ
 levelAfter kind level = cond (eqb kind endPlace) 0 (cond (eqb kind beginOptionalPlace) (level + 1) level)
 
--- a table of `places` places, for a pattern, that is safe to run with `cells` entries for the pairs.
+-- a table of `places` places, for a pattern, that is safe to run with `cells` entries for the pairs. Only an end can lead back.
 -- An end has no rule for the depth: it leads on only from level 0, back to where a pass began
 pub record Wired (code pattern : List ℕ) (places cells : ℕ) : Type 0 where
   pub deep : ℕ → ℕ
@@ -45,5 +45,7 @@ pub record Wired (code pattern : List ℕ) (places cells : ℕ) : Type 0 where
   pub deeper : (x : ℕ) → x < places → kindAt code x < beginOptionalPlace → deep x ≤ deep (nextAt code x)
   pub deeper-other : (x : ℕ) → x < places → kindAt code x ≡ forkPlace → deep x ≤ deep (firstAt code x)
   pub raised : (x : ℕ) → x < places → kindAt code x ≡ beginOptionalPlace → deep x + 1 ≤ deep (nextAt code x)
+  pub ahead : (x : ℕ) → x < places → kindAt code x < endPlace → x < nextAt code x
+  pub ahead-other : (x : ℕ) → x < places → kindAt code x ≡ forkPlace → x < firstAt code x
   pub slots : (x : ℕ) → x < places → Slots (kindAt code x) (firstAt code x) (manyAt code x)
   pub ranges : (x : ℕ) → x < places → kindAt code x ≡ setPlace → firstAt code x + 2 * manyAt code x ≤ length pattern

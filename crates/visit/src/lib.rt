@@ -18,6 +18,9 @@ ghost use Rattle.visit.specs.Moves.{takesAt, Carries, Leads, Settling, S
 // The numbers of a thread in a list: its place, and its rows.
 pub const THREAD: usize = Spans::NUMBERS + 1;
 
+// The numbers of a branch that waits: its place, the first entry of its level, and its rows.
+pub const BRANCH: usize = Spans::NUMBERS + 2;
+
 // The kinds of place. Those before END and END itself lead on at once; a fork does to two places.
 const FORK: usize = 0;
 
