@@ -58,13 +58,13 @@ module _ (taken list : List ℕ) (next stamp : ℕ) (rows : Rows) (count : ℕ) 
 
   -- the list has the thread behind the others, unless the follower had a mark
   carried-more : (b : Bool) (ts : List Thread) → 21 * count + 21 ≤ length list → ts ≡ threads list count
-      → cond b ts (ts ++ (at next 0 rows ∷ [])) ≡ threads (cond b list (stored list count next rows)) (cond b count (count + 1))
+      → cond b ts (ts ++ (at next 0 rows ∷ [])) ≡ threads (cond b list (stored list (21 * count) next rows)) (cond b count (count + 1))
   carried-more true ts room e = e
   carried-more false ts room e =
       ap₂ (λ (x y : List Thread). x ++ y)
-      (e ∙ sym (same-threads (stored list count next rows) list count (stored-long list count next rows long room) (stored-before list count next rows long room)))
-      (sym (ap₂ (λ (x : ℕ) (r : Rows). at x 0 r ∷ []) (stored-place list count next rows long room) (stored-rows list count next rows long room)))
-      ∙ ap (threads (stored list count next rows)) (sym (add-one count))
+      (e ∙ sym (same-threads (stored list (21 * count) next rows) list count (stored-long list (21 * count) next rows long room) (stored-before list (21 * count) next rows long room)))
+      (sym (ap₂ (λ (x : ℕ) (r : Rows). at x 0 r ∷ []) (stored-place list (21 * count) next rows long room) (stored-rows list (21 * count) next rows long room)))
+      ∙ ap (threads (stored list (21 * count) next rows)) (sym (add-one count))
 
   module _ (taken′ list′ : List ℕ) (count′ : ℕ) (made : Carries taken list next stamp rows count taken′ list′ count′) where
     -- the tables show the state with the thread carried
@@ -87,23 +87,23 @@ module _ (taken list : List ℕ) (next stamp : ℕ) (rows : Rows) (count : ℕ) 
       room-here : 21 * count + 21 ≤ length list
       room-here = omega (arith, was .fits, was .list-long)
 
-      kept-long : (b : Bool) → length (cond b list (stored list count next rows)) ≡ length list
+      kept-long : (b : Bool) → length (cond b list (stored list (21 * count) next rows)) ≡ length list
       kept-long true = refl
-      kept-long false = stored-long list count next rows long room-here
+      kept-long false = stored-long list (21 * count) next rows long room-here
 
       still-fits : (b : Bool) → eqb (getD taken next 0) stamp ≡ b → cond b count (count + 1) + left stamp (set taken next stamp) ≤ places
       still-fits true e = subst (λ (t : List ℕ). count + left stamp t ≤ places) (sym (mark-same stamp taken next e)) (was .fits)
       still-fits false e = omega (arith, left-mark stamp taken next (omega (arith, was .taken-long)) e, was .fits)
 
-      still-inside : (b : Bool) (i : ℕ) → i < cond b count (count + 1) → placeIn (cond b list (stored list count next rows)) i < places
+      still-inside : (b : Bool) (i : ℕ) → i < cond b count (count + 1) → placeIn (cond b list (stored list (21 * count) next rows)) i < places
       still-inside true i h = was .inside i h
       still-inside false i h = look (ℕ-discrete i count)
         where
-          look : Dec (i ≡ count) → placeIn (stored list count next rows) i < places
-          look (yes e) = subst (λ (x : ℕ). x < places) (sym (ap (λ (j : ℕ). placeIn (stored list count next rows) j) e ∙ stored-place list count next rows long room-here)) inside
+          look : Dec (i ≡ count) → placeIn (stored list (21 * count) next rows) i < places
+          look (yes e) = subst (λ (x : ℕ). x < places) (sym (ap (λ (j : ℕ). placeIn (stored list (21 * count) next rows) j) e ∙ stored-place list (21 * count) next rows long room-here)) inside
           look (no ne) =
               let lt : i < count = omega arith in
-              subst (λ (x : ℕ). x < places) (sym (stored-before list count next rows long room-here (21 * i) (omega arith))) (was .inside i lt)
+              subst (λ (x : ℕ). x < places) (sym (stored-before list (21 * count) next rows long room-here (21 * i) (omega arith))) (was .inside i lt)
 
       -- and there is still room
       pub carried-carry : Carried places stamp taken′ list′ count′
@@ -128,21 +128,21 @@ module _ (taken list : List ℕ) (stamp : ℕ) (rows : Rows) (count : ℕ) (long
 
   -- the tables show the state with a winner
   pub shows-win : (n : ℕ) (seen : List ℕ) (steps : ℕ) (s : State) → Shows n stamp seen taken list count steps false s
-      → Shows n stamp seen taken (stored list count 0 rows) count steps true (stopWith rows s)
+      → Shows n stamp seen taken (stored list (21 * count) 0 rows) count steps true (stopWith rows s)
   shows-win n seen steps s sh = record {
     pairs = sh .pairs;
     marks = sh .marks;
     carried = sh .carried
-        ∙ sym (same-threads (stored list count 0 rows) list count (stored-long list count 0 rows long winner-room) (stored-before list count 0 rows long winner-room));
-    winner = ap some (sym (stored-rows list count 0 rows long winner-room));
+        ∙ sym (same-threads (stored list (21 * count) 0 rows) list count (stored-long list (21 * count) 0 rows long winner-room) (stored-before list (21 * count) 0 rows long winner-room));
+    winner = ap some (sym (stored-rows list (21 * count) 0 rows long winner-room));
     counted = sh .counted;
   }
 
-  pub carried-win : Carried places stamp taken (stored list count 0 rows) count
+  pub carried-win : Carried places stamp taken (stored list (21 * count) 0 rows) count
   carried-win = record {
     taken-long = was .taken-long;
-    list-long = subst (λ (n : ℕ). 21 * (places + 1) ≤ n) (sym (stored-long list count 0 rows long winner-room)) (was .list-long);
+    list-long = subst (λ (n : ℕ). 21 * (places + 1) ≤ n) (sym (stored-long list (21 * count) 0 rows long winner-room)) (was .list-long);
     under = was .under;
     fits = was .fits;
-    inside = λ i h. subst (λ (x : ℕ). x < places) (sym (stored-before list count 0 rows long winner-room (21 * i) (omega arith))) (was .inside i h);
+    inside = λ i h. subst (λ (x : ℕ). x < places) (sym (stored-before list (21 * count) 0 rows long winner-room (21 * i) (omega arith))) (was .inside i h);
   }

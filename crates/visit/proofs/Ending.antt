@@ -33,7 +33,7 @@ module _ (pattern line : List ℕ) (p kind next a n : ℕ) (rows : Rows) (taken 
         (shows-carry taken list next (p + 1) rows count long taken′ list′ count′ made places seen steps s (settle-inside e) settle-room sh);
   }
 
-  pub settles-win : (list′ : List ℕ) → length rows ≡ 20 → kind ≡ 9 → p ≡ length line → list′ ≡ stored list count 0 rows
+  pub settles-win : (list′ : List ℕ) → length rows ≡ 20 → kind ≡ 9 → p ≡ length line → list′ ≡ stored list (21 * count) 0 rows
       → Settles pattern line p kind next a n rows taken list count taken list′ count true
   settles-win list′ long e end same = record {
     carried = subst (λ (l : List ℕ). Carried (length taken) (p + 1) taken l count) (sym same) (carried-win taken list (p + 1) rows count long (length taken) (asked .carried));

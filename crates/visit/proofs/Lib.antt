@@ -7,5 +7,6 @@ pub mod Moving
 pub mod Carrying
 pub mod Ending
 pub mod Cells
+pub mod Waiting
 pub mod Turns
 pub mod Loop

@@ -1,19 +1,21 @@
 -- The kinds of place by number: what four numbers stand for, and what such a place does to a thread.
-use Prim.Native.Nat.{ℕ, suc, _+_, _*_, _≤_, _<_}
-use mathlib.Core.Path.{_≡_, refl, sym, ap, _∙_}
+use Prim.Native.Nat.{ℕ, zero, suc, _+_, _*_, _≤_, _<_}
+use mathlib.Core.Path.{_≡_, refl, sym, ap, _∙_, subst}
 use mathlib.Core.Bool.{Bool, true, false, cond}
 use mathlib.Core.List.{List}
 use native.Mathlib.Omega.{arith}
 use native.Mathlib.Decide.{ℕ-discrete}
+use native.Mathlib.Nat.{suc-mul, zero-mul, one-mul, add-mul}
 use native.Mathlib.Numerals.{add-one}
-use borrow.Author.Tests.{ne-eqb}
-use lib.Dec.{eqb}
-use lib.ListN.{length, getD, set}
+use borrow.Author.Tests.{ne-eqb, eqb-true}
+use lib.Dec.{eqb, eqb·suc-zero}
+use lib.ListN.{length, getD, set, length-set}
 use Rattle.paper.specs.Rows.{Rows, clear}
 use Rattle.paper.specs.Reading.{inSet, takes, everyByte}
 use Rattle.paper.specs.Check.{rangesOf, part}
 use Rattle.paper.specs.Machine.{Place, Thread, at, State, Move, follow, moveAt}
 use Rattle.paper.specs.Tables.{placeOf}
+use Rattle.paper.proofs.RowLaws.{length-clear}
 use Rattle.visit.specs.Wired.{levelAfter, Slots}
 use Rattle.visit.specs.Moves.{takesAt, Leads}
 use Rattle.visit.proofs.Ranges.{takes-held, takes-none, takes-every}
@@ -83,52 +85,56 @@ eats-none pattern line kind next a n p h6 h7 =
 
 -- ---- where a place leads at once
 
-module _ (kind a n p level : ℕ) (rows : Rows) where
+-- a floor is 0 exactly on level 0
+floor-zero : (places floor level : ℕ) → 0 < places → floor ≡ level * places → eqb floor 0 ≡ eqb level 0
+floor-zero places floor zero some e = ap (λ (f : ℕ). eqb f 0) (e ∙ zero-mul places)
+floor-zero places floor (suc level) some e =
+    let high : floor ≡ 0 → ⊥ = λ h. omega (arith, suc-mul level places) in
+    ne-eqb floor 0 high ∙ sym (eqb·suc-zero level)
+
+module _ (kind a n p places floor : ℕ) (rows : Rows) where
+  -- a place of this kind, whose move is known, on the level of the floor
+  leads-known : (k : ℕ) → kind ≡ k → (goes : Bool) (floor′ : ℕ) (rows′ : Rows) → length rows′ ≡ length rows → (k ≡ 5 → goes ≡ true → floor ≡ 0)
+      → ((level : ℕ) → floor ≡ level * places → floor′ ≡ levelAfter k level * places)
+      → ((level : ℕ) → floor ≡ level * places → (pattern line : List ℕ) (next place : ℕ) (visit : Thread → State → State) (s : State)
+      → follow visit (at place level rows) (moveAt (placeOf pattern k next a n) line p level rows) s ≡ cond goes (visit (at next (levelAfter k level) rows′) s) s)
+      → Leads kind a n p places floor rows goes floor′ rows′
+  leads-known k e goes floor′ rows′ same ended raised followed =
+      subst (λ (j : ℕ). Leads j a n p places floor rows goes floor′ rows′) (sym e) (record { same-long = same; ends = ended; raises = raised; follows = followed })
+
   -- open
-  pub leads-open : kind ≡ 1 → Leads kind a n p level rows true level (set rows (2 * a) p)
-  leads-open e = record {
-    raises = sym (ap (λ (k : ℕ). levelAfter k level) e);
-    follows = λ pattern line next place visit s. ap (λ (k : ℕ). follow visit (at place level rows) (moveAt (placeOf pattern k next a n) line p level rows) s) e;
-  }
+  pub leads-open : kind ≡ 1 → Leads kind a n p places floor rows true floor (set rows (2 * a) p)
+  leads-open e = leads-known 1 e true floor (set rows (2 * a) p) (length-set rows (2 * a) p) (λ h g. omega arith) (λ level h. h) (λ level h pattern line next place visit s. refl)
 
   -- close
-  pub leads-close : kind ≡ 2 → Leads kind a n p level rows true level (set rows (2 * a + 1) p)
-  leads-close e = record {
-    raises = sym (ap (λ (k : ℕ). levelAfter k level) e);
-    follows = λ pattern line next place visit s. ap (λ (k : ℕ). follow visit (at place level rows) (moveAt (placeOf pattern k next a n) line p level rows) s) e;
-  }
+  pub leads-close : kind ≡ 2 → Leads kind a n p places floor rows true floor (set rows (2 * a + 1) p)
+  leads-close e = leads-known 2 e true floor (set rows (2 * a + 1) p) (length-set rows (2 * a + 1) p) (λ h g. omega arith) (λ level h. h) (λ level h pattern line next place visit s. refl)
 
   -- begin
-  pub leads-begin : (rows′ : Rows) → rows′ ≡ clear a n rows → kind ≡ 3 → Leads kind a n p level rows true level rows′
-  leads-begin rows′ same e = record {
-    raises = sym (ap (λ (k : ℕ). levelAfter k level) e);
-    follows = λ pattern line next place visit s.
-        ap (λ (k : ℕ). follow visit (at place level rows) (moveAt (placeOf pattern k next a n) line p level rows) s) e
-        ∙ ap (λ (r : Rows). visit (at next level r) s) (sym same);
-  }
+  pub leads-begin : (rows′ : Rows) → rows′ ≡ clear a n rows → kind ≡ 3 → Leads kind a n p places floor rows true floor rows′
+  leads-begin rows′ same e =
+      leads-known 3 e true floor rows′ (ap length same ∙ length-clear n a rows) (λ h g. omega arith) (λ level h. h)
+      (λ level h pattern line next place visit s. ap (λ (r : Rows). visit (at next level r) s) (sym same))
 
   -- begin optional
-  pub leads-begin-optional : (rows′ : Rows) → rows′ ≡ clear a n rows → kind ≡ 4 → Leads kind a n p level rows true (level + 1) rows′
-  leads-begin-optional rows′ same e = record {
-    raises = sym (ap (λ (k : ℕ). levelAfter k level) e);
-    follows = λ pattern line next place visit s.
-        ap (λ (k : ℕ). follow visit (at place level rows) (moveAt (placeOf pattern k next a n) line p level rows) s) e
-        ∙ (ap (λ (r : Rows). visit (at next (suc level) r) s) (sym same) ∙ ap (λ (l : ℕ). visit (at next l rows′) s) (sym (add-one level)));
-  }
+  pub leads-begin-optional : (rows′ : Rows) → rows′ ≡ clear a n rows → kind ≡ 4 → Leads kind a n p places floor rows true (floor + places) rows′
+  leads-begin-optional rows′ same e =
+      leads-known 4 e true (floor + places) rows′ (ap length same ∙ length-clear n a rows) (λ h g. omega arith)
+      (λ level h. omega (arith, add-mul level 1 places, one-mul places))
+      (λ level h pattern line next place visit s.
+      ap (λ (r : Rows). visit (at next (suc level) r) s) (sym same) ∙ ap (λ (l : ℕ). visit (at next l rows′) s) (sym (add-one level)))
 
-  at-zero : (b : Bool) (next place : ℕ) (visit : Thread → State → State) (s : State)
+  at-zero : (b : Bool) (next place level : ℕ) (visit : Thread → State → State) (s : State)
       → follow visit (at place level rows) (cond b (Move.goOn (at next 0 rows)) Move.die) s ≡ cond b (visit (at next 0 rows) s) s
-  at-zero true next place visit s = refl
-  at-zero false next place visit s = refl
+  at-zero true next place level visit s = refl
+  at-zero false next place level visit s = refl
 
   -- end
-  pub leads-end : kind ≡ 5 → Leads kind a n p level rows (eqb level 0) 0 rows
-  leads-end e = record {
-    raises = sym (ap (λ (k : ℕ). levelAfter k level) e);
-    follows = λ pattern line next place visit s.
-        ap (λ (k : ℕ). follow visit (at place level rows) (moveAt (placeOf pattern k next a n) line p level rows) s) e
-        ∙ at-zero (eqb level 0) next place visit s;
-  }
+  pub leads-end : 0 < places → kind ≡ 5 → Leads kind a n p places floor rows (eqb floor 0) 0 rows
+  leads-end some e =
+      leads-known 5 e (eqb floor 0) 0 rows refl (λ h g. eqb-true floor 0 g) (λ level h. sym (zero-mul places))
+      (λ level h pattern line next place visit s.
+      at-zero (eqb level 0) next place level visit s ∙ ap (λ (b : Bool). cond b (visit (at next 0 rows) s) s) (sym (floor-zero places floor level some h)))
 
 -- the rows that a begin clears, optional or not, exist
 pub begin-slots : (kind a n : ℕ) → 0 < kind → kind < 6 → (kind ≡ 1 → ⊥) → (kind ≡ 2 → ⊥) → (kind ≡ 5 → ⊥) → Slots kind a n → a + n ≤ 10

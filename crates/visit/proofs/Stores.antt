@@ -11,7 +11,7 @@ use lib.ListN.{length, getD, take, drop, set, length-take, length-drop, length-s
 use lib.Seq.{getD-set-same, getD-set-other, getD-take, getD-drop, ext-getD, length-take-le, length-paste, drop-append-le, drop-at, take-at, take-all}
 use Rattle.paper.specs.Rows.{Rows}
 use Rattle.paper.specs.Machine.{Thread, at}
-use Rattle.visit.specs.Threads.{stored, placeIn, rowsIn, threads}
+use Rattle.visit.specs.Threads.{stored, rowsFrom, threads}
 use Rattle.visit.specs.Moves.{Carries}
 
 -- one number more is copied out of a list
@@ -41,12 +41,12 @@ copied rows list b long inside same =
 module _ (taken list : List ℕ) (next stamp : ℕ) (rows : Rows) (count : ℕ) (taken′ list′ : List ℕ) (fresh : Bool)
     (marked : (fresh ≡ not (eqb (getD taken next 0) stamp)) × (taken′ ≡ set taken next stamp)) where
   -- to a follower without a mark
-  pub carries-new : fresh ≡ true → list′ ≡ stored list count next rows → Carries taken list next stamp rows count taken′ list′ (count + 1)
+  pub carries-new : fresh ≡ true → list′ ≡ stored list (21 * count) next rows → Carries taken list next stamp rows count taken′ list′ (count + 1)
   carries-new e kept =
       let unmarked : eqb (getD taken next 0) stamp ≡ false = not-true (eqb (getD taken next 0) stamp) (sym (marked .0) ∙ e) in
       record {
         marked = marked .1;
-        kept = kept ∙ sym (ap (λ (b : Bool). cond b list (stored list count next rows)) unmarked);
+        kept = kept ∙ sym (ap (λ (b : Bool). cond b list (stored list (21 * count) next rows)) unmarked);
         counted = sym (ap (λ (b : Bool). cond b count (count + 1)) unmarked);
       }
 
@@ -56,52 +56,52 @@ module _ (taken list : List ℕ) (next stamp : ℕ) (rows : Rows) (count : ℕ) 
       let already : eqb (getD taken next 0) stamp ≡ true = not-false (eqb (getD taken next 0) stamp) (sym (marked .0) ∙ e) in
       record {
         marked = marked .1;
-        kept = kept ∙ sym (ap (λ (b : Bool). cond b list (stored list count next rows)) already);
+        kept = kept ∙ sym (ap (λ (b : Bool). cond b list (stored list (21 * count) next rows)) already);
         counted = sym (ap (λ (b : Bool). cond b count (count + 1)) already);
       }
 
 -- ---- a thread stored
 
-module _ (list : List ℕ) (i place : ℕ) (rows : Rows) (long : length rows ≡ 20) (room : 21 * i + 21 ≤ length list) where
-  placed-long : length (set list (21 * i) place) ≡ length list
-  placed-long = length-set list (21 * i) place
+module _ (list : List ℕ) (b place : ℕ) (rows : Rows) (long : length rows ≡ 20) (room : b + 21 ≤ length list) where
+  placed-long : length (set list b place) ≡ length list
+  placed-long = length-set list b place
 
-  head-long : length (take (21 * i + 1) (set list (21 * i) place)) ≡ 21 * i + 1
-  head-long = length-take-le (21 * i + 1) (set list (21 * i) place) (omega (arith, placed-long))
+  head-long : length (take (b + 1) (set list b place)) ≡ b + 1
+  head-long = length-take-le (b + 1) (set list b place) (omega (arith, placed-long))
 
   -- the list stays as long as it was
-  pub stored-long : length (stored list i place rows) ≡ length list
-  stored-long = length-paste (set list (21 * i) place) (21 * i + 1) rows 20 (omega (arith, placed-long)) (omega arith) ∙ placed-long
+  pub stored-long : length (stored list b place rows) ≡ length list
+  stored-long = length-paste (set list b place) (b + 1) rows 20 (omega (arith, placed-long)) (omega arith) ∙ placed-long
 
   -- up to the place, the list is that with the place set
-  stored-head : (j : ℕ) → j < 21 * i + 1 → getD (stored list i place rows) j 0 ≡ getD (set list (21 * i) place) j 0
+  stored-head : (j : ℕ) → j < b + 1 → getD (stored list b place rows) j 0 ≡ getD (set list b place) j 0
   stored-head j h =
-      List·getD-append (take (21 * i + 1) (set list (21 * i) place) ++ take 20 rows) (drop (21 * i + 1 + 20) (set list (21 * i) place)) 0 j
-      (omega (arith, length-append (take (21 * i + 1) (set list (21 * i) place)) (take 20 rows), head-long))
-      ∙ (List·getD-append (take (21 * i + 1) (set list (21 * i) place)) (take 20 rows) 0 j (omega (arith, head-long))
-      ∙ getD-take (21 * i + 1) (set list (21 * i) place) j 0 h)
+      List·getD-append (take (b + 1) (set list b place) ++ take 20 rows) (drop (b + 1 + 20) (set list b place)) 0 j
+      (omega (arith, length-append (take (b + 1) (set list b place)) (take 20 rows), head-long))
+      ∙ (List·getD-append (take (b + 1) (set list b place)) (take 20 rows) 0 j (omega (arith, head-long))
+      ∙ getD-take (b + 1) (set list b place) j 0 h)
 
   -- what stands before the thread is left
-  pub stored-before : (j : ℕ) → j < 21 * i → getD (stored list i place rows) j 0 ≡ getD list j 0
-  stored-before j h = stored-head j (omega arith) ∙ getD-set-other list (21 * i) j place 0 (λ e. omega arith)
+  pub stored-before : (j : ℕ) → j < b → getD (stored list b place rows) j 0 ≡ getD list j 0
+  stored-before j h = stored-head j (omega arith) ∙ getD-set-other list b j place 0 (λ e. omega arith)
 
   -- its place is the one stored
-  pub stored-place : placeIn (stored list i place rows) i ≡ place
-  stored-place = stored-head (21 * i) (omega arith) ∙ getD-set-same list (21 * i) place 0 (omega arith)
+  pub stored-place : getD (stored list b place rows) b 0 ≡ place
+  stored-place = stored-head b (omega arith) ∙ getD-set-same list b place 0 (omega arith)
 
   -- its rows are those stored
-  pub stored-rows : rowsIn (stored list i place rows) i ≡ rows
+  pub stored-rows : rowsFrom (stored list b place rows) b ≡ rows
   stored-rows =
       ap (take 20)
-      (drop-append-le (21 * i + 1) (take (21 * i + 1) (set list (21 * i) place) ++ take 20 rows) (drop (21 * i + 1 + 20) (set list (21 * i) place))
-      (omega (arith, length-append (take (21 * i + 1) (set list (21 * i) place)) (take 20 rows), head-long))
-      ∙ ap (λ (l : List ℕ). l ++ drop (21 * i + 1 + 20) (set list (21 * i) place))
-      (drop-at (take (21 * i + 1) (set list (21 * i) place)) (take 20 rows) (21 * i + 1) head-long))
-      ∙ (take-at (take 20 rows) (drop (21 * i + 1 + 20) (set list (21 * i) place)) 20 (length-take-le 20 rows (omega arith))
+      (drop-append-le (b + 1) (take (b + 1) (set list b place) ++ take 20 rows) (drop (b + 1 + 20) (set list b place))
+      (omega (arith, length-append (take (b + 1) (set list b place)) (take 20 rows), head-long))
+      ∙ ap (λ (l : List ℕ). l ++ drop (b + 1 + 20) (set list b place))
+      (drop-at (take (b + 1) (set list b place)) (take 20 rows) (b + 1) head-long))
+      ∙ (take-at (take 20 rows) (drop (b + 1 + 20) (set list b place)) 20 (length-take-le 20 rows (omega arith))
       ∙ take-all 20 rows (omega arith))
 
 -- lists that agree below an index have the same rows there
-same-part : (l m : List ℕ) (b c : ℕ) → length l ≡ length m → ((j : ℕ) → j < b → getD l j 0 ≡ getD m j 0) → c + 20 ≤ b
+pub same-part : (l m : List ℕ) (b c : ℕ) → length l ≡ length m → ((j : ℕ) → j < b → getD l j 0 ≡ getD m j 0) → c + 20 ≤ b
     → take 20 (drop c l) ≡ take 20 (drop c m)
 same-part l m b c long same h =
     ext-getD 0 (take 20 (drop c l)) (take 20 (drop c m))

@@ -1,7 +1,7 @@
 -- What the small functions of a visit promise: each is the definition's move at a place of some kind, whatever the visit that goes on from there.
 use Prim.Native.Nat.{ℕ, _+_, _*_, _≤_, _<_, _^_}
 use mathlib.Core.Path.{_≡_}
-use mathlib.Core.Bool.{Bool, false, cond}
+use mathlib.Core.Bool.{Bool, true, false, cond}
 use mathlib.Core.List.{List}
 use lib.Dec.{eqb}
 use lib.ListN.{length, getD, set}
@@ -9,8 +9,8 @@ use Rattle.paper.specs.Limits.{absent}
 use Rattle.paper.specs.Rows.{Rows}
 use Rattle.paper.specs.Reading.{takes}
 use Rattle.paper.specs.Machine.{Place, Thread, at, State, follow, moveAt}
-use Rattle.paper.specs.Tables.{placeOf, setPlace, stopPlace}
-use Rattle.visit.specs.Threads.{stored}
+use Rattle.paper.specs.Tables.{placeOf, endPlace, setPlace, stopPlace}
+use Rattle.visit.specs.Threads.{threadNumbers, stored}
 use Rattle.visit.specs.Wired.{levelAfter}
 use Rattle.visit.specs.Shows.{Shows, Carried}
 
@@ -29,14 +29,16 @@ takesAt Place.accept line p = false
 -- a thread carried to a follower: marked, and stored behind the others if it had no mark
 pub record Carries (taken list : List ℕ) (next stamp : ℕ) (rows : Rows) (count : ℕ) (taken′ list′ : List ℕ) (count′ : ℕ) : Type 0 where
   pub marked : taken′ ≡ set taken next stamp
-  pub kept : list′ ≡ cond (eqb (getD taken next 0) stamp) list (stored list count next rows)
+  pub kept : list′ ≡ cond (eqb (getD taken next 0) stamp) list (stored list (threadNumbers * count) next rows)
   pub counted : count′ ≡ cond (eqb (getD taken next 0) stamp) count (count + 1)
 
--- a place that leads on at once: where to, on which level and with which rows, or that it does not
-pub record Leads (kind a n p level : ℕ) (rows : Rows) (goes : Bool) (level′ : ℕ) (rows′ : Rows) : Type 0 where
-  pub raises : level′ ≡ levelAfter kind level
-  pub follows : (pattern line : List ℕ) (next place : ℕ) (visit : Thread → State → State) (s : State)
-      → follow visit (at place level rows) (moveAt (placeOf pattern kind next a n) line p level rows) s ≡ cond goes (visit (at next level′ rows′) s) s
+-- a place that leads on at once: where to, on which level and with which rows, or that it does not. A level is given by its first entry, its floor
+pub record Leads (kind a n p places floor : ℕ) (rows : Rows) (goes : Bool) (floor′ : ℕ) (rows′ : Rows) : Type 0 where
+  pub same-long : length rows′ ≡ length rows
+  pub ends : kind ≡ endPlace → goes ≡ true → floor ≡ 0
+  pub raises : (level : ℕ) → floor ≡ level * places → floor′ ≡ levelAfter kind level * places
+  pub follows : (level : ℕ) → floor ≡ level * places → (pattern line : List ℕ) (next place : ℕ) (visit : Thread → State → State) (s : State)
+      → follow visit (at place level rows) (moveAt (placeOf pattern kind next a n) line p level rows) s ≡ cond goes (visit (at next (levelAfter kind level) rows′) s) s
 
 -- what a place that leads nowhere at once asks
 pub record Settling (pattern : List ℕ) (p kind next a n : ℕ) (taken list : List ℕ) (count : ℕ) : Type 0 where

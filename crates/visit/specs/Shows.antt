@@ -12,7 +12,7 @@ use Rattle.paper.specs.Rows.{Rows}
 use Rattle.paper.specs.Machine.{State, isSeen, visit, at}
 use Rattle.paper.specs.Tables.{decode}
 use Rattle.paper.proofs.Once.{once, pairsOf}
-use Rattle.visit.specs.Threads.{threadNumbers, rowsIn, placeIn, threads, left}
+use Rattle.visit.specs.Threads.{threadNumbers, branchNumbers, rowsIn, placeIn, threads, left}
 use Rattle.visit.specs.Wired.{Wired}
 
 -- the state that the tables show
@@ -35,23 +35,24 @@ pub record Carried (places stamp : ℕ) (taken list : List ℕ) (count : ℕ) : 
   pub fits : count + left stamp taken ≤ places
   pub inside : (i : ℕ) → i < count → placeIn list i < places
 
--- what a visit asks: tables that are safe, a place and a level inside them, and room to count
-pub record Arrives (code pattern : List ℕ) (places p place level : ℕ) (seen taken list : List ℕ) (count steps : ℕ) : Type 0 where
+-- what a visit asks: tables that are safe, a place inside them, room for two branches that wait for each place, and room to count
+pub record Arrives (code pattern : List ℕ) (places p place : ℕ) (seen taken list pending : List ℕ) (count steps : ℕ) : Type 0 where
   pub wired : Wired code pattern places (length seen)
   pub inside : place < places
-  pub low : level ≤ wired .deep place
   pub early : p < absent
+  pub cells : length seen < 2 ^ 16
   pub under : Under (p + 1) seen
   pub carried : Carried places (p + 1) taken list count
+  pub pending-long : branchNumbers * (2 * places) ≤ length pending
   pub countable : steps + left (p + 1) seen < 2 ^ 32
 
--- what a visit promises. Of every state that the tables show at entry, without a winner, they show at exit the state after the definition's visit,
+-- what a visit of a thread on level 0 promises. Of every state that the tables show at entry, without a winner, they show at exit the state after the definition's visit,
 -- if its bound is above the number of pairs not seen. Each step is one such pair
-pub record Visits (code pattern line : List ℕ) (places p place level : ℕ) (rows : Rows) (seen taken list : List ℕ) (count steps : ℕ)
+pub record Visits (code pattern line : List ℕ) (places p place : ℕ) (rows : Rows) (seen taken list : List ℕ) (count steps : ℕ)
     (seen′ taken′ list′ : List ℕ) (count′ steps′ : ℕ) (done : Bool) : Type 0 where
   pub under : Under (p + 1) seen′
   pub carried : Carried places (p + 1) taken′ list′ count′
   pub each : steps′ + left (p + 1) seen′ ≡ steps + left (p + 1) seen
   pub fewer : left (p + 1) seen′ ≤ left (p + 1) seen
   pub shows : (k : ℕ) (s : State) → Shows places (p + 1) seen taken list count steps false s → left (p + 1) seen < k
-      → Shows places (p + 1) seen′ taken′ list′ count′ steps′ done (visit k (decode code pattern places) line p (at place level rows) s)
+      → Shows places (p + 1) seen′ taken′ list′ count′ steps′ done (visit k (decode code pattern places) line p (at place 0 rows) s)

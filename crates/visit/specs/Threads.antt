@@ -1,4 +1,4 @@
--- How threads stand in a lent list: for each its place and then its rows. A thread in a list is on level 0.
+-- How threads stand in a lent list: for each its place and then its rows. A thread in a list is on level 0. Before a branch that waits stands the first entry of its level.
 use Prim.Native.Nat.{ℕ, zero, suc, _+_, _*_}
 use mathlib.Core.Bool.{cond}
 use mathlib.Core.List.{List, [], _∷_, _++_}
@@ -20,8 +20,12 @@ branchNumbers = 2 + tableNumbers
 abbrev pub placeIn : List ℕ → ℕ → ℕ
 placeIn list i = getD list (threadNumbers * i) 0
 
+-- the rows behind a place that stands at an offset
+abbrev pub rowsFrom : List ℕ → ℕ → Rows
+rowsFrom list b = take tableNumbers (drop (b + 1) list)
+
 abbrev pub rowsIn : List ℕ → ℕ → Rows
-rowsIn list i = take tableNumbers (drop (threadNumbers * i + 1) list)
+rowsIn list i = rowsFrom list (threadNumbers * i)
 
 abbrev pub threadIn : List ℕ → ℕ → Thread
 threadIn list i = at (placeIn list i) 0 (rowsIn list i)
@@ -31,9 +35,13 @@ abbrev pub threads : List ℕ → ℕ → List Thread
 threads list zero = []
 threads list (suc n) = threads list n ++ (threadIn list n ∷ [])
 
--- a list after a thread was written at an index
+-- a list after a thread was written at an offset
 abbrev pub stored : List ℕ → ℕ → ℕ → Rows → List ℕ
-stored list i place rows = paste (set list (threadNumbers * i) place) (threadNumbers * i + 1) rows tableNumbers
+stored list b place rows = paste (set list b place) (b + 1) rows tableNumbers
+
+-- branches that wait, after one more was written at an index
+abbrev pub waited : List ℕ → ℕ → ℕ → ℕ → Rows → List ℕ
+waited pending i floor place rows = stored (set pending (branchNumbers * i) floor) (branchNumbers * i + 1) place rows
 
 -- how many entries of a table do not have this stamp
 abbrev pub left : ℕ → List ℕ → ℕ

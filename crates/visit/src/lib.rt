@@ -10,7 +10,7 @@ ghost use Rattle.paper.specs.Rows.{clear};
 ghost use Rattle.paper.specs.Reading.{inSet};
 ghost use Rattle.paper.specs.Check.{rangesOf, part};
 ghost use Rattle.paper.specs.Tables.{placeOf, placeNumbers, forkPlace, setPlace};
-ghost use Rattle.visit.specs.Threads.{threadNumbers, stored, rowsIn};
+ghost use Rattle.visit.specs.Threads.{threadNumbers, branchNumbers, stored, waited, rowsFrom};
 ghost use Rattle.visit.specs.Wired.{kindAt, nextAt, firstAt, manyAt, Slots};
 ghost use Rattle.visit.specs.Shows.{Arrives, Visits};
 ghost use Rattle.visit.specs.Moves.{takesAt, Carries, Leads, Settling, Settles};
@@ -46,10 +46,10 @@ struct Numbers {
     pub n: usize,
 }
 
-// Where a place leads at once: whether it does, and the level there.
+// Where a place leads at once: whether it does, and the floor of the level there.
 struct Onward {
     pub goes: bool,
-    pub level: usize,
+    pub floor: usize,
 }
 
 // What a place that leads nowhere at once leaves: how many threads are carried, and whether a thread has won.
@@ -137,26 +137,25 @@ fn clear_rows(rows: &mut [u16; Spans::NUMBERS], first: usize, count: usize)
     }
 }
 
-// Writes a thread at an index of a list.
-pub fn store(list: &mut [u16], index: usize, place: u16, groups: [u16; Spans::NUMBERS])
-    requires { ⌜ threadNumbers * index + threadNumbers ≤ length (now list) ⌝ }
-    ensures { λ _. ⌜ now (list .exit) ≡ stored (now (list .entry)) index place groups ⌝ }
+// Writes a thread at an offset of a list.
+pub fn store(list: &mut [u16], offset: usize, place: u16, groups: [u16; Spans::NUMBERS])
+    requires { ⌜ offset + threadNumbers ≤ length (now list) ⌝ }
+    ensures { λ _. ⌜ now (list .exit) ≡ stored (now (list .entry)) offset place groups ⌝ }
 {
-    let b = THREAD * index;
-    list[b] = place;
+    list[offset] = place;
     let mut j = 0;
     while j < Spans::NUMBERS {
-        list[b + 1 + j] = groups[j];
+        list[offset + 1 + j] = groups[j];
         j = j + 1;
     }
 }
 
-// The rows of the thread at an index of a list.
-pub fn load(list: &[u16], index: usize) -> [u16; Spans::NUMBERS]
-    requires { ⌜ threadNumbers * index + threadNumbers ≤ length (now list) ⌝ }
-    ensures { λ r. ⌜ r ≡ rowsIn (now (list .entry)) index ⌝ }
+// The rows of the thread at an offset of a list.
+pub fn load(list: &[u16], offset: usize) -> [u16; Spans::NUMBERS]
+    requires { ⌜ offset + threadNumbers ≤ length (now list) ⌝ }
+    ensures { λ r. ⌜ r ≡ rowsFrom (now (list .entry)) offset ⌝ }
 {
-    let b = THREAD * index + 1;
+    let b = offset + 1;
     let mut rows = [0u16; Spans::NUMBERS];
     let mut j = 0;
     while j < Spans::NUMBERS {
@@ -189,7 +188,7 @@ fn carry(
     ensures { λ r. ⌜ Carries (now (taken .entry)) (now (list .entry)) next stamp groups count (now (taken .exit)) (now (list .exit)) r ⌝ }
 {
     if mark(taken, next, stamp) {
-        store(list, count, next as u16, groups);
+        store(list, THREAD * count, next as u16, groups);
         count + 1
     } else {
         count
@@ -202,34 +201,35 @@ fn lead(
     a: usize,
     n: usize,
     at: u16,
-    level: usize,
+    floor: usize,
+    places: usize,
     rows: &mut [u16; Spans::NUMBERS],
 ) -> Onward
-    requires { ⌜ (forkPlace < kind) × (kind < setPlace) × (level + 1 < 2 ^ 64) × Slots kind a n ⌝ }
-    ensures { λ r. ⌜ Leads kind a n at level (now (rows .entry)) (r .goes) (r .level) (now (rows .exit)) ⌝ }
+    requires { ⌜ (forkPlace < kind) × (kind < setPlace) × (floor + places < 2 ^ 64) × (0 < places) × Slots kind a n ⌝ }
+    ensures { λ r. ⌜ Leads kind a n at places floor (now (rows .entry)) (r .goes) (r .floor) (now (rows .exit)) ⌝ }
 {
     if kind == OPEN {
         rows[2 * a] = at;
-        return Onward { goes: true, level };
+        return Onward { goes: true, floor };
     }
     if kind == CLOSE {
         rows[2 * a + 1] = at;
-        return Onward { goes: true, level };
+        return Onward { goes: true, floor };
     }
     if kind == END {
         return Onward {
-            goes: level == 0,
-            level: 0,
+            goes: floor == 0,
+            floor: 0,
         };
     }
     clear_rows(rows, a, n);
     if kind == BEGIN_OPTIONAL {
         return Onward {
             goes: true,
-            level: level + 1,
+            floor: floor + places,
         };
     }
-    Onward { goes: true, level }
+    Onward { goes: true, floor }
 }
 
 // A place that leads nowhere at once, from SET on: a set, stop, accept. The winner is stored behind the carried threads, uncounted.
@@ -255,7 +255,7 @@ fn settle(
         }
     } else if kind == ACCEPT {
         if wide(at) == line.len() {
-            store(list, count, 0, groups);
+            store(list, THREAD * count, 0, groups);
             Settled { count, done: true }
         } else {
             Settled { count, done: false }
@@ -265,7 +265,17 @@ fn settle(
     }
 }
 
-// An arrival at a place on a level, with all that it leads to at this position. It calls itself only for the preferred branch of a fork.
+// Puts a branch behind those that wait: the floor of its level, its place and its rows.
+fn wait(pending: &mut [u16], index: usize, floor: usize, place: usize, rows: [u16; Spans::NUMBERS])
+    requires { ⌜ (branchNumbers * index + branchNumbers ≤ length (now pending)) × (floor < 2 ^ 16) × (place < 2 ^ 16) ⌝ }
+    ensures { λ _. ⌜ now (pending .exit) ≡ waited (now (pending .entry)) index floor place rows ⌝ }
+{
+    let b = BRANCH * index;
+    pending[b] = floor as u16;
+    store(pending, b + 1, place as u16, rows);
+}
+
+// A thread on level 0, with all that it leads to at this position. A fork's other branch waits until the preferred one has come to its end.
 pub fn visit(
     code: &[u16],
     pattern: &[u8],
@@ -273,63 +283,60 @@ pub fn visit(
     seen: &mut [u16],
     taken: &mut [u16],
     list: &mut [u16],
+    pending: &mut [u16],
     places: usize,
     at: u16,
     start: usize,
-    height: usize,
     groups: [u16; Spans::NUMBERS],
     carried: usize,
     before: u32,
 ) -> Visited
-    requires { ⌜ Arrives (now code) (now pattern) places at start height (now seen) (now taken) (now list) carried before ⌝ }
-    ensures { λ r. ⌜ Visits (now (code .entry)) (now (pattern .entry)) (now (line .entry)) places at start height groups (now (seen .entry)) (now (taken .entry)) (now (list .entry)) carried before (now (seen .exit)) (now (taken .exit)) (now (list .exit)) (r .count) (r .steps) (r .done) ⌝ }
+    requires { ⌜ Arrives (now code) (now pattern) places at start (now seen) (now taken) (now list) (now pending) carried before ⌝ }
+    ensures { λ r. ⌜ Visits (now (code .entry)) (now (pattern .entry)) (now (line .entry)) places at start groups (now (seen .entry)) (now (taken .entry)) (now (list .entry)) carried before (now (seen .exit)) (now (taken .exit)) (now (list .exit)) (r .count) (r .steps) (r .done) ⌝ }
 {
     let mut place = start;
-    let mut level = height;
+    let mut floor = 0;
     let mut rows = groups;
     let mut count = carried;
     let mut steps = before;
+    let mut waiting = 0;
+    let mut alive = true;
     let mut goes = true;
     let mut done = false;
     while goes {
-        if mark(seen, level * places + place, at + 1) {
-            steps = steps + 1;
-            let here = numbers_of(code, place);
-            let kind = here.kind;
-            if kind == FORK {
-                let r = visit(
-                    code,
-                    pattern,
-                    line,
-                    seen,
-                    taken,
-                    list,
-                    places,
-                    at,
-                    here.next,
-                    level,
-                    rows,
-                    count,
-                    steps,
-                );
-                count = r.count;
-                steps = r.steps;
-                done = r.done;
-                goes = !done;
-                place = here.a;
-            } else if kind < SET {
-                let o = lead(kind, here.a, here.n, at, level, &mut rows);
-                level = o.level;
-                goes = o.goes;
-                place = here.next;
+        if alive {
+            if mark(seen, floor + place, at + 1) {
+                steps = steps + 1;
+                let here = numbers_of(code, place);
+                let kind = here.kind;
+                if kind == FORK {
+                    wait(pending, waiting, floor, here.a, rows);
+                    waiting = waiting + 1;
+                    place = here.next;
+                } else if kind < SET {
+                    let o = lead(kind, here.a, here.n, at, floor, places, &mut rows);
+                    floor = o.floor;
+                    alive = o.goes;
+                    place = here.next;
+                } else {
+                    let s = settle(pattern, line, taken, list, here, at, rows, count);
+                    count = s.count;
+                    done = s.done;
+                    goes = !done;
+                    alive = false;
+                }
             } else {
-                let s = settle(pattern, line, taken, list, here, at, rows, count);
-                count = s.count;
-                done = s.done;
-                goes = false;
+                // A pair that was seen is dropped.
+                alive = false;
             }
+        } else if 0 < waiting {
+            waiting = waiting - 1;
+            let b = BRANCH * waiting;
+            floor = wide(pending[b]);
+            place = wide(pending[b + 1]);
+            rows = load(pending, b + 1);
+            alive = true;
         } else {
-            // A pair that was seen is dropped.
             goes = false;
         }
     }

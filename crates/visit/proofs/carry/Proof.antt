@@ -12,6 +12,9 @@ use Rattle.visit.proofs.store.Reads as store-reads
 mark-requires : tie.Need-mark-requires
 mark-requires c κs = search needs
 
+mul-store : tie.Need-mul-store
+mul-store c = search needs
+
 cast-store : tie.Need-cast-store
 cast-store c = search needs
 
@@ -50,6 +53,7 @@ carry-spec =
     tie.close
     (tie.spec
     mark-requires
+    mul-store
     cast-store
     store-requires
     add-result

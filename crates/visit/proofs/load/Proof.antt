@@ -11,13 +11,10 @@ use Rattle.visit.proofs.load.Reads as reads
 use Rattle.visit.proofs.load.Lts as lts
 
 abbrev Inv-loop : tie.InvT-loop
-Inv-loop list index b rows₀ j₀ rows j = (j ≤ 20) × (length rows ≡ 20) × ((i : ℕ) → i < j → getD rows i 0 ≡ getD list (b + i) 0)
+Inv-loop list offset b rows₀ j₀ rows j = (j ≤ 20) × (length rows ≡ 20) × ((i : ℕ) → i < j → getD rows i 0 ≡ getD list (b + i) 0)
 
 abbrev μ-loop : tie.MeasureT-loop
-μ-loop list index b rows₀ j₀ rows j = 20 - j
-
-mul-b : tie.Need-mul-b Inv-loop μ-loop
-mul-b c = search needs
+μ-loop list offset b rows₀ j₀ rows j = 20 - j
 
 add-b : tie.Need-add-b Inv-loop μ-loop
 add-b c = search needs
@@ -50,13 +47,13 @@ loop-again : tie.Need-loop-again Inv-loop μ-loop
 loop-again c =
     let the-loop = c .before .before .loop in
     let the-args = c .before .before .before .args in
-    (search needs, search needs, copy-more (the-loop .rows) (the-args .list .now) (21 * the-args .index + 1) (the-loop .j) (omega arith) (the-loop .inv .2))
+    (search needs, search needs, copy-more (the-loop .rows) (the-args .list .now) (the-args .offset + 1) (the-loop .j) (omega arith) (the-loop .inv .2))
 
 returns : tie.Need-returns Inv-loop μ-loop
 returns c =
     let the-loop = c .before .loop in
     let the-args = c .before .before .args in
-    copied (the-loop .rows) (the-args .list .now) (21 * the-args .index + 1) (the-loop .inv .1) (omega arith) (λ i lt. the-loop .inv .2 i (omega arith))
+    copied (the-loop .rows) (the-args .list .now) (the-args .offset + 1) (the-loop .inv .1) (omega arith) (λ i lt. the-loop .inv .2 i (omega arith))
 
 pub load-spec : {M : Type 1} → statement M
 load-spec =
@@ -64,7 +61,6 @@ load-spec =
     (tie.spec
     Inv-loop
     μ-loop
-    mul-b
     add-b
     loop-holds
     add-rows

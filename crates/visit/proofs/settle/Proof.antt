@@ -32,6 +32,9 @@ carry-requires c κs =
 wide-requires : tie.Need-wide-requires
 wide-requires c κs = search needs
 
+mul-store : tie.Need-mul-store
+mul-store c = search needs
+
 store-requires : tie.Need-store-requires
 store-requires c κs =
     let the-args = c .before .before .before .before .before .before .before .before .before .before .args in
@@ -96,6 +99,7 @@ settle-spec =
     add-carry
     carry-requires
     wide-requires
+    mul-store
     store-requires
     same-length
     same-length-2

@@ -14,13 +14,10 @@ use Rattle.visit.proofs.store.Reads as reads
 use Rattle.visit.proofs.store.Lts as lts
 
 abbrev Inv-loop : tie.InvT-loop
-Inv-loop list₀ index place groups b j₀ list j = (j ≤ 20) × (length list ≡ length list₀) × (list ≡ paste list₀ (b + 1) groups j)
+Inv-loop list₀ offset place groups j₀ list j = (j ≤ 20) × (length list ≡ length list₀) × (list ≡ paste list₀ (offset + 1) groups j)
 
 abbrev μ-loop : tie.MeasureT-loop
-μ-loop list₀ index place groups b j₀ list j = 20 - j
-
-mul-b : tie.Need-mul-b Inv-loop μ-loop
-mul-b c = search needs
+μ-loop list₀ offset place groups j₀ list j = 20 - j
 
 mul-list : tie.Need-mul-list Inv-loop μ-loop
 mul-list c = search needs
@@ -31,7 +28,7 @@ slice-write-list c = search needs
 loop-holds : tie.Need-loop-holds Inv-loop μ-loop
 loop-holds c =
     let the-args = c .args in
-    (search needs, search needs, paste-zero (set (the-args .list .now) (21 * the-args .index) (the-args .place)) (21 * the-args .index + 1) (the-args .t4))
+    (search needs, search needs, paste-zero (set (the-args .list .now) (the-args .offset) (the-args .place)) (the-args .offset + 1) (the-args .t4))
 
 mul-list-2 : tie.Need-mul-list-2 Inv-loop μ-loop
 mul-list-2 c = search needs
@@ -52,7 +49,7 @@ slice-write-list-2 : tie.Need-slice-write-list-2 Inv-loop μ-loop
 slice-write-list-2 c =
     let the-loop = c .before .loop in
     let the-args = c .before .before .args in
-    omega (arith, the-loop .inv .1, length-set (the-args .list .now) (21 * the-args .index) (the-args .place))
+    omega (arith, the-loop .inv .1, length-set (the-args .list .now) (the-args .offset) (the-args .place))
 
 add-j : tie.Need-add-j Inv-loop μ-loop
 add-j c = search needs
@@ -66,27 +63,27 @@ loop-again c =
     let the-loop = c .before .loop in
     let the-loop-test = c .loop-test in
     let long : length (the-args .t4) ≡ 20 = search needs in
-    let inside : 21 * the-args .index + 1 + the-loop .j < length (set (the-args .list .now) (21 * the-args .index) (the-args .place)) = omega (arith, length-set (the-args .list .now) (21 * the-args .index) (the-args .place)) in
+    let inside : the-args .offset + 1 + the-loop .j < length (set (the-args .list .now) (the-args .offset) (the-args .place)) = omega (arith, length-set (the-args .list .now) (the-args .offset) (the-args .place)) in
     let below : the-loop .j < length (the-args .t4) = omega (arith, the-loop-test .taken) in (
       search needs,
-      length-set (the-loop .list) (21 * the-args .index + 1 + the-loop .j) (getD (the-args .t4) (the-loop .j) 0) ∙ the-loop .inv .1,
-      ap (λ (l : List ℕ). set l (21 * the-args .index + 1 + the-loop .j) (getD (the-args .t4) (the-loop .j) 0)) (the-loop .inv .2)
-          ∙ (paste-suc (set (the-args .list .now) (21 * the-args .index) (the-args .place)) (21 * the-args .index + 1) (the-args .t4) (the-loop .j) 0 inside below
-          ∙ ap (λ (n : ℕ). paste (set (the-args .list .now) (21 * the-args .index) (the-args .place)) (21 * the-args .index + 1) (the-args .t4) n) (sym (add-one (the-loop .j)))),
+      length-set (the-loop .list) (the-args .offset + 1 + the-loop .j) (getD (the-args .t4) (the-loop .j) 0) ∙ the-loop .inv .1,
+      ap (λ (l : List ℕ). set l (the-args .offset + 1 + the-loop .j) (getD (the-args .t4) (the-loop .j) 0)) (the-loop .inv .2)
+          ∙ (paste-suc (set (the-args .list .now) (the-args .offset) (the-args .place)) (the-args .offset + 1) (the-args .t4) (the-loop .j) 0 inside below
+          ∙ ap (λ (n : ℕ). paste (set (the-args .list .now) (the-args .offset) (the-args .place)) (the-args .offset + 1) (the-args .t4) n) (sym (add-one (the-loop .j)))),
     )
 
 same-length : tie.Need-same-length Inv-loop μ-loop
 same-length c =
     let the-loop = c .before .loop in
     let the-args = c .before .before .args in
-    the-loop .inv .1 ∙ length-set (the-args .list .now) (21 * the-args .index) (the-args .place)
+    the-loop .inv .1 ∙ length-set (the-args .list .now) (the-args .offset) (the-args .place)
 
 returns : tie.Need-returns Inv-loop μ-loop
 returns c =
     let the-loop = c .before .loop in
     let the-args = c .before .before .args in
     let all : the-loop .j ≡ 20 = omega (arith, the-loop .inv .0) in
-    the-loop .inv .2 ∙ ap (λ (n : ℕ). paste (set (the-args .list .now) (21 * the-args .index) (the-args .place)) (21 * the-args .index + 1) (the-args .t4) n) all
+    the-loop .inv .2 ∙ ap (λ (n : ℕ). paste (set (the-args .list .now) (the-args .offset) (the-args .place)) (the-args .offset + 1) (the-args .t4) n) all
 
 pub store-spec : {M : Type 1} → statement M
 store-spec =
@@ -94,7 +91,6 @@ store-spec =
     (tie.spec
     Inv-loop
     μ-loop
-    mul-b
     mul-list
     slice-write-list
     loop-holds
