@@ -8,17 +8,18 @@ use native.Mathlib.Omega.{arith}
 use native.Mathlib.Numerals.{add-one}
 use borrow.Author.Tests.{lt-ltb, ltb-true, ltb-false}
 use lib.Dec.{ltb}
-use lib.ListN.{length, replicate, length-replicate, length-append}
+use lib.ListN.{length, getD, replicate, length-replicate, length-append}
 use Rattle.paper.specs.Rows.{Rows, noRows}
 use Rattle.paper.specs.Machine.{Place, Thread, at, fresh, visits, settle, run, Stopped}
 use Rattle.paper.specs.Tables.{decode}
 use Rattle.paper.proofs.Once.{once, run-once}
-use Rattle.visit.specs.Threads.{placeIn, rowsIn, threadIn, threads, stored}
+use Rattle.visit.specs.Threads.{placeIn, rowsFrom, rowsIn, threadIn, threads, stored}
 use Rattle.visit.specs.Wired.{Wired}
 use Rattle.visit.specs.Shows.{Under}
 use Rattle.visit.proofs.Stores.{stored-long, stored-place, stored-rows}
 use Rattle.visit.proofs.Loop.{rewire}
-use Rattle.run.specs.Steps.{Stepping, Steps, Running, stoppedAs}
+use Rattle.run.specs.Steps.{listOf, Stepping, Steps, Running, stoppedAs}
+use Rattle.run.proofs.Lists.{list-long, place-of, rows-of}
 
 -- ---- how a position settles
 
@@ -91,21 +92,26 @@ zero-under p (suc n) zero = omega arith
 zero-under p (suc n) (suc i) = zero-under p n i
 
 -- it holds at the start, with the tables wiped and one thread at the first place
-pub position-first : (code pattern line : List ℕ) (places start : ℕ) (seen taken one other : List ℕ) → Running code pattern line places start seen taken one other
-    → (seen′ taken′ one′ : List ℕ) → seen′ ≡ replicate (length seen) 0 → taken′ ≡ replicate (length taken) 0 → one′ ≡ stored one 0 0 noRows
-    → Position code pattern line places start (length seen) seen′ taken′ one′ start 1 0 false true
-position-first code pattern line places start seen taken one other asked seen′ taken′ one′ es et eo =
-    let room : 21 * 0 + 21 ≤ length one = omega (arith, asked .lists-long) in
-    let long : length one′ ≡ length one = ap length eo ∙ stored-long one 0 0 noRows refl room in
-    let place : placeIn one′ 0 ≡ 0 = ap (λ (l : List ℕ). placeIn l 0) eo ∙ stored-place one 0 0 noRows refl room in
-    let rows : rowsIn one′ 0 ≡ noRows = ap (λ (l : List ℕ). rowsIn l 0) eo ∙ stored-rows one 0 0 noRows refl room in
+pub position-first : (code pattern line : List ℕ) (places start : ℕ) (seen taken lists pending : List ℕ) → Running code pattern line places start seen taken lists pending
+    → (seen′ taken′ lists′ : List ℕ) → seen′ ≡ replicate (length seen) 0 → taken′ ≡ replicate (length taken) 0 → lists′ ≡ stored lists 0 0 noRows
+    → Position code pattern line places start (length seen) seen′ taken′ (listOf places false lists′) start 1 0 false true
+position-first code pattern line places start seen taken lists pending asked seen′ taken′ lists′ es et el =
+    let room : 0 + 21 ≤ length lists = omega (arith, asked .lists-long) in
+    let long : length lists′ ≡ length lists = ap length el ∙ stored-long lists 0 0 noRows refl room in
+    let both : 2 * (21 * (places + 1)) ≤ length lists′ = omega (arith, asked .lists-long) in
+    let inner : 21 * 0 + 21 ≤ 21 * (places + 1) = omega arith in
+    let current = listOf places false lists′ in
+    let place : placeIn current 0 ≡ 0 =
+    sym (place-of places false lists′ both 0 0 refl inner) ∙ (ap (λ (l : List ℕ). getD l 0 0) el ∙ stored-place lists 0 0 noRows refl room) in
+    let rows : rowsIn current 0 ≡ noRows =
+    sym (rows-of places false lists′ both 0 0 refl inner) ∙ (ap (λ (l : List ℕ). rowsFrom l 0) el ∙ stored-rows lists 0 0 noRows refl room) in
     record {
       wired = asked .wired;
       small = asked .cells;
       line-long = asked .line-long;
       long = ap length es ∙ length-replicate (length seen) 0;
       taken-long = ap length et ∙ (length-replicate (length taken) 0 ∙ asked .taken-long);
-      current-long = omega (arith, asked .lists-long);
+      current-long = omega (arith, list-long places false lists′ both);
       seen-under = subst (Under start) (sym es) (zero-under start (length seen));
       taken-under = subst (Under start) (sym et) (zero-under start (length taken));
       after = omega arith;
@@ -115,7 +121,7 @@ position-first code pattern line places start seen taken one other asked seen′
       some = λ e. omega arith;
       inside = λ i h.
           let e : 0 ≡ i = omega arith in
-          subst (λ (j : ℕ). placeIn one′ j < places) e (omega (arith, place, asked .some));
+          subst (λ (j : ℕ). placeIn current j < places) e (omega (arith, place, asked .some));
       bounded = omega arith;
       ran = λ turns h.
           ap₂ (λ (x : ℕ) (r : Rows). run (suc (length line - start)) turns (decode code pattern places) line start (at x 0 r ∷ []) 0) (sym place) (sym rows);
@@ -124,9 +130,11 @@ position-first code pattern line places start seen taken one other asked seen′
 module _ {code pattern line : List ℕ} {places start cells : ℕ} {seen taken current : List ℕ} {p number steps : ℕ} {matched goes : Bool}
     (q : Position code pattern line places start cells seen taken current p number steps matched goes) where
   -- what the position asks of its tables
-  pub position-asked : goes ≡ true → (spare : List ℕ) → 21 * (places + 1) ≤ length spare → Stepping code pattern places p seen taken current number spare steps
-  position-asked go spare spare-long = record {
+  pub position-asked : goes ≡ true → (spare pending : List ℕ) → 21 * (places + 1) ≤ length spare → 22 * (2 * places) ≤ length pending
+      → Stepping code pattern places p seen taken current number spare pending steps
+  position-asked go spare pending spare-long pending-long = record {
     wired = rewire (length seen) (sym (q .long)) (q .wired);
+    cells = omega (arith, q .long, q .small);
     early = omega (arith, q .within go, q .line-long);
     seen-under = q .seen-under;
     taken-under = q .taken-under;
@@ -135,6 +143,7 @@ module _ {code pattern line : List ℕ} {places start cells : ℕ} {seen taken c
     long = omega (arith, q .few, q .current-long);
     inside = q .inside;
     list-long = spare-long;
+    pending-long = pending-long;
     countable = omega (arith, q .bounded, q .within go, q .line-long, q .small, q .long);
   }
 
@@ -151,12 +160,12 @@ module _ {code pattern line : List ℕ} {places start cells : ℕ} {seen taken c
   and-second false b h = cc
 
   -- it holds again at the next position
-  pub position-next : goes ≡ true → (spare seen′ taken′ spare′ : List ℕ) (count steps′ : ℕ) (done goes′ : Bool)
-      → length seen′ ≡ length seen → length spare′ ≡ length spare → 21 * (places + 1) ≤ length spare
-      → Steps code pattern line places p seen taken current number spare steps seen′ taken′ spare′ count steps′ done
+  pub position-next : goes ≡ true → (seen′ taken′ spare′ : List ℕ) (count steps′ : ℕ) (done goes′ : Bool)
+      → length seen′ ≡ length seen → 21 * (places + 1) ≤ length spare′
+      → Steps code pattern line places p seen taken current number steps seen′ taken′ spare′ count steps′ done
       → (r : ℕ) → r ≡ p → goes′ ≡ (not done && (ltb 0 count && ltb r (length line)))
       → Position code pattern line places start cells seen′ taken′ spare′ (p + 1) count steps′ done goes′
-  position-next go spare seen′ taken′ spare′ count steps′ done goes′ same-seen same-spare spare-long made r er going =
+  position-next go seen′ taken′ spare′ count steps′ done goes′ same-seen spare-long made r er going =
       let going-on : goes′ ≡ (not done && (ltb 0 count && ltb p (length line))) =
       going ∙ ap (λ (i : ℕ). not done && (ltb 0 count && ltb i (length line))) er in
       record {
@@ -212,19 +221,6 @@ module _ {code pattern line : List ℕ} {places start cells : ℕ} {seen taken c
       at-most-one : (g : Bool) → cond g 1 0 ≤ 1
       at-most-one true = omega arith
       at-most-one false = omega arith
-
--- which of the two lists is the current one
-pub at-one : {code pattern line : List ℕ} {places start cells : ℕ} {seen taken : List ℕ} {p number steps : ℕ} {matched goes : Bool} (even : Bool) (one other : List ℕ)
-    → Position code pattern line places start cells seen taken (cond even one other) p number steps matched goes → even ≡ true
-    → Position code pattern line places start cells seen taken one p number steps matched goes
-at-one {code} {pattern} {line} {places} {start} {cells} {seen} {taken} {p} {number} {steps} {matched} {goes} even one other q e =
-    subst (λ (l : List ℕ). Position code pattern line places start cells seen taken l p number steps matched goes) (ap (λ (b : Bool). cond b one other) e) q
-
-pub at-other : {code pattern line : List ℕ} {places start cells : ℕ} {seen taken : List ℕ} {p number steps : ℕ} {matched goes : Bool} (even : Bool) (one other : List ℕ)
-    → Position code pattern line places start cells seen taken (cond even one other) p number steps matched goes → even ≡ false
-    → Position code pattern line places start cells seen taken other p number steps matched goes
-at-other {code} {pattern} {line} {places} {start} {cells} {seen} {taken} {p} {number} {steps} {matched} {goes} even one other q e =
-    subst (λ (l : List ℕ). Position code pattern line places start cells seen taken l p number steps matched goes) (ap (λ (b : Bool). cond b one other) e) q
 
 -- as many entries by another name
 pub at-cells : {code pattern line : List ℕ} {places start cells : ℕ} {seen taken current : List ℕ} {p number steps : ℕ} {matched goes : Bool} (more : ℕ) → cells ≡ more

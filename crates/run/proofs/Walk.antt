@@ -52,6 +52,7 @@ module _ (k : ℕ) (code : List Place) (line : List ℕ) (p : ℕ) where
 pub record Walk (code pattern line : List ℕ) (places p : ℕ) (seen₀ taken₀ from : List ℕ) (number : ℕ) (list₀ : List ℕ) (steps₀ : ℕ)
     (seen taken list : List ℕ) (i count steps : ℕ) (done goes : Bool) : Type 0 where
   pub wired : Wired code pattern places (length seen₀)
+  pub cells : length seen₀ < 2 ^ 16
   pub early : p < 65535
   pub from-long : 21 * number ≤ length from
   pub inside : (j : ℕ) → j < number → placeIn from j < places
@@ -75,11 +76,12 @@ under-more : (p : ℕ) (table : List ℕ) → Under p table → Under (p + 1) ta
 under-more p table under i = omega (arith, under i)
 
 -- it holds before the first thread
-pub walk-first : (code pattern line : List ℕ) (places p : ℕ) (seen taken from : List ℕ) (number : ℕ) (list : List ℕ) (steps : ℕ)
-    → Stepping code pattern places p seen taken from number list steps
+pub walk-first : (code pattern line : List ℕ) (places p : ℕ) (seen taken from : List ℕ) (number : ℕ) (list pending : List ℕ) (steps : ℕ)
+    → Stepping code pattern places p seen taken from number list pending steps
     → Walk code pattern line places p seen taken from number list steps seen taken list 0 0 steps false true
-walk-first code pattern line places p seen taken from number list steps asked = record {
+walk-first code pattern line places p seen taken from number list pending steps asked = record {
   wired = asked .wired;
+  cells = asked .cells;
   early = asked .early;
   from-long = asked .long;
   inside = asked .inside;
@@ -134,11 +136,13 @@ module _ {code pattern line : List ℕ} {places p : ℕ} {seen₀ taken₀ from 
   walk-room go = omega (arith, walk-inside go, w .from-long)
 
   -- what the visit of the next thread asks
-  pub walk-asked : goes ≡ true → (q : ℕ) → q ≡ placeIn from i → Arrives code pattern places p q 0 seen taken list count steps
-  walk-asked go q e = record {
+  pub walk-asked : goes ≡ true → (q : ℕ) → q ≡ placeIn from i → (pending : List ℕ) → 22 * (2 * places) ≤ length pending
+      → Arrives code pattern places p q seen taken list pending count steps
+  walk-asked go q e pending pending-long = record {
     wired = rewire (length seen) (sym (w .long)) (w .wired);
     inside = omega (arith, w .inside i (walk-inside go));
-    low = omega arith;
+    cells = omega (arith, w .cells, w .long);
+    pending-long = pending-long;
     early = w .early;
     under = w .under;
     carried = w .carried;
@@ -149,11 +153,12 @@ module _ {code pattern line : List ℕ} {places p : ℕ} {seen₀ taken₀ from 
   pub walk-next : goes ≡ true → (q : ℕ) → q ≡ placeIn from i → (rows : Rows) → rows ≡ rowsIn from i
       → (seen′ taken′ list′ : List ℕ) (count′ steps′ : ℕ) (done′ goes′ : Bool)
       → length seen′ ≡ length seen → length taken′ ≡ length taken → length list′ ≡ length list
-      → Visits code pattern line places p q 0 rows seen taken list count steps seen′ taken′ list′ count′ steps′ done′
+      → Visits code pattern line places p q rows seen taken list count steps seen′ taken′ list′ count′ steps′ done′
       → goes′ ≡ (not done′ && ltb (i + 1) number)
       → Walk code pattern line places p seen₀ taken₀ from number list₀ steps₀ seen′ taken′ list′ (i + 1) count′ steps′ done′ goes′
   walk-next go q e rows er seen′ taken′ list′ count′ steps′ done′ goes′ same-seen same-taken same-list made going = record {
     wired = w .wired;
+    cells = w .cells;
     early = w .early;
     from-long = w .from-long;
     inside = w .inside;
@@ -195,7 +200,7 @@ module _ {code pattern line : List ℕ} {places p : ℕ} {seen₀ taken₀ from 
       ap (λ (j : ℕ). visits k (decode code pattern places) line p (threads from j) (fresh steps₀)) e
 
   -- at the end, what the position promises
-  pub walk-last : goes ≡ false → Steps code pattern line places p seen₀ taken₀ from number list₀ steps₀ seen taken list count steps done
+  pub walk-last : goes ≡ false → Steps code pattern line places p seen₀ taken₀ from number steps₀ seen taken list count steps done
   walk-last stop = record {
     under = w .under;
     carried = w .carried;

@@ -1,9 +1,9 @@
 -- What a position asks and promises, and what a run does: the definition's, for the places that the table stands for.
 use Prim.Native.Nat.{ℕ, suc, _+_, _-_, _*_, _≤_, _<_, _^_}
 use mathlib.Core.Path.{_≡_}
-use mathlib.Core.Bool.{Bool, true, false}
+use mathlib.Core.Bool.{Bool, true, false, cond}
 use mathlib.Core.List.{List, [], _∷_}
-use lib.ListN.{length}
+use lib.ListN.{length, take, drop}
 use Rattle.paper.specs.Limits.{lineBytes, absent}
 use Rattle.paper.specs.Rows.{Rows, noRows}
 use Rattle.paper.specs.Machine.{at, fresh, visits, run, Stopped}
@@ -12,9 +12,16 @@ use Rattle.visit.specs.Threads.{threadNumbers, branchNumbers, placeIn, threads}
 use Rattle.visit.specs.Wired.{Wired}
 use Rattle.visit.specs.Shows.{Shows, Carried, Under}
 
--- what a position asks: safe tables without its stamp, threads inside, room for those that they carry, and room to count
-pub record Stepping (code pattern : List ℕ) (places p : ℕ) (seen taken threads : List ℕ) (number : ℕ) (list : List ℕ) (steps : ℕ) : Type 0 where
+-- one of two lists that stand one behind the other
+abbrev pub listOf : ℕ → Bool → List ℕ → List ℕ
+listOf places second lists =
+    let long = threadNumbers * (places + 1) in
+    take long (drop (cond second long 0) lists)
+
+-- what a position asks: safe tables without its stamp, threads inside, room for those that they carry and for the branches that wait, and room to count
+pub record Stepping (code pattern : List ℕ) (places p : ℕ) (seen taken threads : List ℕ) (number : ℕ) (list pending : List ℕ) (steps : ℕ) : Type 0 where
   pub wired : Wired code pattern places (length seen)
+  pub cells : length seen < 2 ^ 16
   pub early : p < absent
   pub seen-under : Under p seen
   pub taken-under : Under p taken
@@ -23,10 +30,11 @@ pub record Stepping (code pattern : List ℕ) (places p : ℕ) (seen taken threa
   pub long : threadNumbers * number ≤ length threads
   pub inside : (i : ℕ) → i < number → placeIn threads i < places
   pub list-long : threadNumbers * (places + 1) ≤ length list
+  pub pending-long : branchNumbers * (2 * places) ≤ length pending
   pub countable : steps + length seen < 2 ^ 32
 
 -- what it promises: the tables show the state after the definition's visits of the threads, if its bound is above the number of pairs
-pub record Steps (code pattern line : List ℕ) (places p : ℕ) (seen taken from : List ℕ) (number : ℕ) (list : List ℕ) (steps : ℕ)
+pub record Steps (code pattern line : List ℕ) (places p : ℕ) (seen taken from : List ℕ) (number steps : ℕ)
     (seen′ taken′ list′ : List ℕ) (count steps′ : ℕ) (done : Bool) : Type 0 where
   pub under : Under (p + 1) seen′
   pub carried : Carried places (p + 1) taken′ list′ count

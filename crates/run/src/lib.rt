@@ -2,11 +2,12 @@
 use pattern::Spans;
 use visit::Visited;
 ghost use mathlib.Core.Path.{_≡_};
-ghost use mathlib.Core.Bool.{not, _&&_};
-ghost use Prim.Native.Nat.{ℕ, _+_, _<_};
+ghost use mathlib.Core.Bool.{not, cond, _&&_};
+ghost use Prim.Native.Nat.{ℕ, _+_, _*_, _≤_, _<_};
 ghost use lib.Dec.{ltb};
 ghost use lib.ListN.{length, replicate};
-ghost use Rattle.run.specs.Steps.{Stepping, Steps, Running, Runs};
+ghost use Rattle.visit.specs.Threads.{threadNumbers};
+ghost use Rattle.run.specs.Steps.{listOf, Stepping, Steps, Running, Runs};
 
 // How the machine stopped, with the steps made and, where it matched, the winner's rows.
 pub struct Ran {
@@ -33,42 +34,56 @@ fn more(done: bool, i: usize, number: usize) -> bool
     if done { false } else { i < number }
 }
 
-// The threads of a list at one position, in order, until one has won.
+// Where the first or the second of two lists begins.
+fn list_at(second: bool, long: usize) -> usize
+    ensures { λ r. ⌜ r ≡ cond second long 0 ⌝ }
+{
+    if second { long } else { 0 }
+}
+
+// The threads of one of two lists at one position, in order, until one has won. Those that they carry go into the other list.
 fn step(
     code: &[u16],
     pattern: &[u8],
     line: &[u8],
     seen: &mut [u16],
     taken: &mut [u16],
-    from: &[u16],
+    lists: &mut [u16],
+    pending: &mut [u16],
+    second: bool,
     number: usize,
-    list: &mut [u16],
     places: usize,
     at: u16,
     before: u32,
 ) -> Visited
-    requires { ⌜ Stepping (now code) (now pattern) places at (now seen) (now taken) (now from) number (now list) before ⌝ }
-    ensures { λ r. ⌜ Steps (now (code .entry)) (now (pattern .entry)) (now (line .entry)) places at (now (seen .entry)) (now (taken .entry)) (now (from .entry)) number (now (list .entry)) before (now (seen .exit)) (now (taken .exit)) (now (list .exit)) (r .count) (r .steps) (r .done) ⌝ }
+    requires { ⌜ Stepping (now code) (now pattern) places at (now seen) (now taken) (listOf places second (now lists)) number (listOf places (not second) (now lists)) (now pending) before ⌝ }
+    requires { ⌜ 2 * (threadNumbers * (places + 1)) ≤ length (now lists) ⌝ }
+    ensures { λ r. ⌜ Steps (now (code .entry)) (now (pattern .entry)) (now (line .entry)) places at (now (seen .entry)) (now (taken .entry)) (listOf places second (now (lists .entry))) number before (now (seen .exit)) (now (taken .exit)) (listOf places (not second) (now (lists .exit))) (r .count) (r .steps) (r .done) ⌝ }
 {
+    let long = visit::THREAD * (places + 1);
+    let from = list_at(second, long);
+    let to = list_at(!second, long);
+    let end = to + long;
     let mut i = 0;
     let mut count = 0;
     let mut steps = before;
     let mut done = false;
     let mut goes = true;
     while goes {
-        let place = visit::wide(from[visit::THREAD * i]);
-        let rows = visit::load(from, i);
+        let b = from + visit::THREAD * i;
+        let place = visit::wide(lists[b]);
+        let rows = visit::load(lists, b);
         let r = visit::visit(
             code,
             pattern,
             line,
             seen,
             taken,
-            list,
+            &mut lists[to..end],
+            pending,
             places,
             at,
             place,
-            0,
             rows,
             count,
             steps,
@@ -118,64 +133,35 @@ pub fn run(
     let mut number = 1;
     let mut steps = 0;
     let mut matched = false;
-    let mut even = true;
+    let mut second = false;
     let mut goes = true;
     while goes {
-        if even {
-            let r = step(
-                code,
-                pattern,
-                line,
-                seen,
-                taken,
-                lists,
-                number,
-                pending,
-                places,
-                at,
-                steps,
-            );
-            number = r.count;
-            steps = r.steps;
-            matched = r.done;
-            goes = proceeds(matched, number, visit::wide(at), line.len());
-            at = at + 1;
-            even = false;
-        } else {
-            let r = step(
-                code,
-                pattern,
-                line,
-                seen,
-                taken,
-                pending,
-                number,
-                lists,
-                places,
-                at,
-                steps,
-            );
-            number = r.count;
-            steps = r.steps;
-            matched = r.done;
-            goes = proceeds(matched, number, visit::wide(at), line.len());
-            at = at + 1;
-            even = true;
-        }
+        let r = step(
+            code,
+            pattern,
+            line,
+            seen,
+            taken,
+            lists,
+            pending,
+            second,
+            number,
+            places,
+            at,
+            steps,
+        );
+        number = r.count;
+        steps = r.steps;
+        matched = r.done;
+        goes = proceeds(matched, number, visit::wide(at), line.len());
+        at = at + 1;
+        second = !second;
     }
-    if even {
-        let rows = visit::load(lists, number);
-        Ran {
-            matched,
-            steps,
-            rows,
-        }
-    } else {
-        let rows = visit::load(pending, number);
-        Ran {
-            matched,
-            steps,
-            rows,
-        }
+    let b = list_at(second, visit::THREAD * (places + 1)) + visit::THREAD * number;
+    let rows = visit::load(lists, b);
+    Ran {
+        matched,
+        steps,
+        rows,
     }
 }
