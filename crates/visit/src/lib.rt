@@ -127,6 +127,12 @@ fn clear_rows(rows: &mut [u16; Spans::NUMBERS], first: usize, count: usize)
     requires { ⌜ first + count ≤ rowCount ⌝ }
     ensures { λ _. ⌜ now (rows .exit) ≡ clear first count (now (rows .entry)) ⌝ }
 {
+    if count == 1 {
+        // The usual case, by itself: a loop costs more.
+        rows[2 * first] = Spans::ABSENT;
+        rows[2 * first + 1] = Spans::ABSENT;
+        return;
+    }
     let mut k = first;
     let mut many = count;
     while 0 < many {
@@ -310,9 +316,11 @@ pub fn visit(
                 let here = numbers_of(code, place);
                 let kind = here.kind;
                 if kind == FORK {
-                    wait(pending, waiting, floor, here.a, rows);
+                    let preferred = here.next;
+                    let other = here.a;
+                    wait(pending, waiting, floor, other, rows);
                     waiting = waiting + 1;
-                    place = here.next;
+                    place = preferred;
                 } else if kind < SET {
                     let o = lead(kind, here.a, here.n, at, floor, places, &mut rows);
                     floor = o.floor;

@@ -1,7 +1,7 @@
--- Each turn clears one row, as each clause of the definition does.
+-- One row is cleared at once; else each turn clears one, as each clause of the definition does.
 use borrow.Author.Needs.{needs}
-use Prim.Native.Nat.{_+_, _≤_}
-use mathlib.Core.Path.{_≡_, sym, _∙_}
+use Prim.Native.Nat.{ℕ, _+_, _≤_}
+use mathlib.Core.Path.{_≡_, sym, ap, _∙_}
 use Rattle.paper.specs.Rows.{clear}
 use Rattle.visit.proofs.Ranges.{clear-more, clear-none}
 use Rattle.visit.proofs.clear_rows.Statement.{statement}
@@ -14,9 +14,6 @@ Inv-loop rows₀ first count k₀ many₀ rows k many = (k + many ≤ 10) × (cl
 
 abbrev μ-loop : tie.MeasureT-loop
 μ-loop rows₀ first count k₀ many₀ rows k many = many
-
-loop-holds : tie.Need-loop-holds Inv-loop μ-loop
-loop-holds c = search needs
 
 mul-rows : tie.Need-mul-rows Inv-loop μ-loop
 mul-rows c = search needs
@@ -39,6 +36,36 @@ mul-rows-4 c = search needs
 element-write-rows-2 : tie.Need-element-write-rows-2 Inv-loop μ-loop
 element-write-rows-2 c = search needs
 
+returns : tie.Need-returns Inv-loop μ-loop
+returns c =
+    let the-args = c .before .args in
+    let the-if1 = c .if1 in
+    ap (λ (n : ℕ). clear (the-args .first) n (the-args .rows .now)) (sym (the-if1 .taken))
+
+loop-holds : tie.Need-loop-holds Inv-loop μ-loop
+loop-holds c = search needs
+
+mul-rows-5 : tie.Need-mul-rows-5 Inv-loop μ-loop
+mul-rows-5 c = search needs
+
+mul-rows-6 : tie.Need-mul-rows-6 Inv-loop μ-loop
+mul-rows-6 c = search needs
+
+element-write-rows-3 : tie.Need-element-write-rows-3 Inv-loop μ-loop
+element-write-rows-3 c = search needs
+
+mul-rows-7 : tie.Need-mul-rows-7 Inv-loop μ-loop
+mul-rows-7 c = search needs
+
+add-rows-2 : tie.Need-add-rows-2 Inv-loop μ-loop
+add-rows-2 c = search needs
+
+mul-rows-8 : tie.Need-mul-rows-8 Inv-loop μ-loop
+mul-rows-8 c = search needs
+
+element-write-rows-4 : tie.Need-element-write-rows-4 Inv-loop μ-loop
+element-write-rows-4 c = search needs
+
 add-k : tie.Need-add-k Inv-loop μ-loop
 add-k c = search needs
 
@@ -54,8 +81,8 @@ loop-again c =
     let the-loop-test = c .loop-test in
     (search needs, sym (clear-more (the-loop .k) (the-loop .many) (the-loop .rows) (the-loop-test .taken)) ∙ the-loop .inv .1)
 
-returns : tie.Need-returns Inv-loop μ-loop
-returns c =
+returns-2 : tie.Need-returns-2 Inv-loop μ-loop
+returns-2 c =
     let the-loop = c .before .loop in
     let the-loop-test = c .loop-test in
     sym (clear-none (the-loop .k) (the-loop .many) (the-loop .rows) (the-loop-test .left)) ∙ the-loop .inv .1
@@ -66,7 +93,6 @@ clear-rows-spec =
     (tie.spec
     Inv-loop
     μ-loop
-    loop-holds
     mul-rows
     mul-rows-2
     element-write-rows
@@ -74,8 +100,17 @@ clear-rows-spec =
     add-rows
     mul-rows-4
     element-write-rows-2
+    returns
+    loop-holds
+    mul-rows-5
+    mul-rows-6
+    element-write-rows-3
+    mul-rows-7
+    add-rows-2
+    mul-rows-8
+    element-write-rows-4
     add-k
     sub-many
     loop-less
     loop-again
-    returns)
+    returns-2)
