@@ -18,25 +18,24 @@ use Rattle.paper.specs.Match.{withRow0, wholeMatch, wrap, search, matchSteps, s
 use Rattle.paper.specs.Replace.{movedBy, moved}
 use Rattle.paper.proofs.MachineReads.{machine-matches, machine-searches}
 use Rattle.paper.proofs.MovedMachine.{movedStopped, steps-moved, rows-moved, machine-moved}
-use Rattle.visit.specs.Threads.{threadNumbers}
 use Rattle.visit.specs.Wired.{Wired}
 use Rattle.run.specs.Steps.{Running, stoppedAs, Runs}
-use Rattle.matcher.specs.Machine.{wrapped, firstGroup, Ready, RunsFrom, Gives, OrNone}
+use Rattle.matcher.specs.Machine.{wrapped, firstGroup, Ready, listsNumbers, pendingNumbers, RunsFrom, Gives, OrNone}
 use Rattle.matcher.proofs.Wiring.{ready-places, ready-pairs, ready-wired}
 
 -- a machine that is ready can be run in scratch of its sizes
 pub runs-safely : {pattern code : List ℕ} {searches : Bool} {places deep : ℕ} (m : Ready pattern code searches places deep)
-    {line : List ℕ} {from : ℕ} {seen taken one other : List ℕ} → length seen ≡ places * (deep + 1) → length taken ≡ places
-    → threadNumbers * (places + 1) ≤ length one → threadNumbers * (places + 1) ≤ length other → length line ≤ lineBytes → from ≤ length line
-    → Running code pattern line places from seen taken one other
-runs-safely {pattern} {code} {places = places} m cells few one-long other-long short inside =
+    {line : List ℕ} {from : ℕ} {seen taken lists pending : List ℕ} → length seen ≡ places * (deep + 1) → length taken ≡ places
+    → listsNumbers places ≤ length lists → pendingNumbers places ≤ length pending → length line ≤ lineBytes → from ≤ length line
+    → Running code pattern line places from seen taken lists pending
+runs-safely {pattern} {code} {places = places} m cells few lists-long pending-long short inside =
     record {
       wired = subst (Wired code pattern places) (sym cells) (ready-wired m);
       some = ready-places m .0;
       cells = omega (arith, ready-pairs m);
       taken-long = few;
-      one-long = one-long;
-      other-long = other-long;
+      lists-long = lists-long;
+      pending-long = pending-long;
       line-long = short;
       starts = inside;
     }

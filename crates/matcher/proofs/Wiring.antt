@@ -10,15 +10,15 @@ use Rattle.paper.specs.Limits.{patternLevels, rowCount, lineBytes}
 use Rattle.paper.specs.Pattern.{Pattern, allPlaces, depth, groups}
 use Rattle.paper.specs.Layout.{Lawful}
 use Rattle.paper.specs.Machine.{Place, stop, placesOf, pairs}
-use Rattle.paper.specs.Tables.{stopPlace, beginOptionalPlace, placeNumbers, placeOf, placeAt, decode}
+use Rattle.paper.specs.Tables.{stopPlace, beginOptionalPlace, endPlace, placeNumbers, placeOf, placeAt, decode}
 use Rattle.paper.proofs.Sizes.{places-wrap, depth-wrap, depth-levels}
 use Rattle.paper.proofs.Static.{Static, deepAt, deep-most, places-static}
-use Rattle.visit.specs.Threads.{threadNumbers}
+use Rattle.paper.proofs.Nested.{Forward, places-forward}
 use Rattle.visit.specs.Wired.{kindAt, nextAt, firstAt, manyAt, Slots, Wired}
 use Rattle.visit.proofs.Cells.{decode-at}
 use Rattle.places.specs.Laid.{Readable}
 use Rattle.places.specs.Asked.{mostPlaces}
-use Rattle.matcher.specs.Machine.{wrapped, firstGroup, Ready, Scratch, Runnable}
+use Rattle.matcher.specs.Machine.{wrapped, firstGroup, Ready, listsNumbers, pendingNumbers, Scratch, Runnable}
 
 module _ (pattern : List ℕ) (deep : ℕ → ℕ) (places x : ℕ) where
   -- what is known of the place that four numbers stand for
@@ -55,6 +55,15 @@ module _ (pattern : List ℕ) (deep : ℕ → ℕ) (places x : ℕ) where
     begins-optional = λ e. of-kind kind next a n 4 s e .1;
   }
 
+-- a place that four numbers stand for leads ahead, but for an end
+next-ahead : (pattern : List ℕ) (x kind next a n : ℕ) → Forward x (placeOf pattern kind next a n) → kind < endPlace → x < next
+next-ahead pattern x zero next a n f h = f .0
+next-ahead pattern x (suc zero) next a n f h = f
+next-ahead pattern x (suc (suc zero)) next a n f h = f
+next-ahead pattern x (suc (suc (suc zero))) next a n f h = f
+next-ahead pattern x (suc (suc (suc (suc zero)))) next a n f h = f
+next-ahead pattern x (suc (suc (suc (suc (suc kind))))) next a n f h = absurd (omega arith)
+
 -- a level up to the depth of a place, times the places, and the place stay below all pairs
 cell-room : (d most places x : ℕ) → d ≤ most → x < places → d * places + x < places * (most + 1)
 cell-room d most places x low inside =
@@ -75,15 +84,20 @@ wired code pattern e first rows few long decoded readable =
       deeper = λ x h k. next-deep pattern (deepAt e first) (allPlaces e) x (kindAt code x) (nextAt code x) (firstAt code x) (manyAt code x) (known x h) k;
       deeper-other = λ x h k. kind-at x h 0 k .1 .1;
       raised = λ x h k. kind-at x h 4 k .0 .1;
+      ahead = λ x h k. next-ahead pattern x (kindAt code x) (nextAt code x) (firstAt code x) (manyAt code x) (forward x h) k;
+      ahead-other = λ x h k. subst (λ (j : ℕ). Forward x (placeOf pattern j (nextAt code x) (firstAt code x) (manyAt code x))) k (forward x h) .1;
       slots = λ x h. slots-known pattern (deepAt e first) (allPlaces e) x (kindAt code x) (nextAt code x) (firstAt code x) (manyAt code x) (known x h);
       ranges = λ x h k. readable x h .pairs-end k;
     }
   where
+    listed : (x : ℕ) → x < allPlaces e → getD (placesOf e first) x stop ≡ placeAt code pattern x
+    listed x h = ap (λ (places : List Place). getD places x stop) (sym decoded) ∙ decode-at code pattern (allPlaces e) x h
+
     known : (x : ℕ) → x < allPlaces e → Static (deepAt e first) (allPlaces e) rowCount x (placeAt code pattern x)
-    known x h =
-        subst (Static (deepAt e first) (allPlaces e) rowCount x)
-        (ap (λ (places : List Place). getD places x stop) (sym decoded) ∙ decode-at code pattern (allPlaces e) x h)
-        (places-static e first rowCount rows x h)
+    known x h = subst (Static (deepAt e first) (allPlaces e) rowCount x) (listed x h) (places-static e first rowCount rows x h)
+
+    forward : (x : ℕ) → x < allPlaces e → Forward x (placeAt code pattern x)
+    forward x h = subst (Forward x) (listed x h) (places-forward e first x)
 
     kind-at : (x : ℕ) → x < allPlaces e → (k : ℕ) → kindAt code x ≡ k
         → Known pattern (deepAt e first) (allPlaces e) x k (nextAt code x) (firstAt code x) (manyAt code x)
@@ -129,22 +143,22 @@ ready-wired {pattern} {code} {searches} {places} {deep} m =
 
 -- scratch of the tables' sizes is long enough for it, whichever lists it holds
 pub ready-scratch : {pattern code : List ℕ} {searches : Bool} {places deep : ℕ} → Ready pattern code searches places deep
-    → {seen taken one other : List ℕ} → length seen ≡ mostPlaces * patternLevels → length taken ≡ mostPlaces → length one ≡ threadNumbers * (mostPlaces + 1)
-    → length other ≡ threadNumbers * (mostPlaces + 1) → Scratch places deep seen taken one other
-ready-scratch m s t o o′ = record {
+    → {seen taken lists pending : List ℕ} → length seen ≡ mostPlaces * patternLevels → length taken ≡ mostPlaces → length lists ≡ listsNumbers mostPlaces
+    → length pending ≡ pendingNumbers mostPlaces → Scratch places deep seen taken lists pending
+ready-scratch m s t l p = record {
   seen-long = omega (arith, ready-pairs m, s);
   taken-long = omega (arith, ready-places m, t);
-  one-long = omega (arith, ready-places m, o);
-  other-long = omega (arith, ready-places m, o′);
+  lists-long = omega (arith, ready-places m, l);
+  pending-long = omega (arith, ready-places m, p);
 }
 
 -- from the line's start
-pub ready-runs : {pattern code line : List ℕ} {searches : Bool} {places deep : ℕ} {seen taken one other : List ℕ} (flag : Bool) → searches ≡ flag
+pub ready-runs : {pattern code line : List ℕ} {searches : Bool} {places deep : ℕ} {seen taken lists pending : List ℕ} (flag : Bool) → searches ≡ flag
     → Ready pattern code searches places deep → length line ≤ lineBytes → length seen ≡ mostPlaces * patternLevels → length taken ≡ mostPlaces
-    → length one ≡ threadNumbers * (mostPlaces + 1) → length other ≡ threadNumbers * (mostPlaces + 1) → Runnable pattern code line flag places deep 0 seen taken one other
-ready-runs {pattern} {code} {places = places} {deep = deep} flag same m short s t o o′ = record {
+    → length lists ≡ listsNumbers mostPlaces → length pending ≡ pendingNumbers mostPlaces → Runnable pattern code line flag places deep 0 seen taken lists pending
+ready-runs {pattern} {code} {places = places} {deep = deep} flag same m short s t l p = record {
   ready = subst (λ (b : Bool). Ready pattern code b places deep) same m;
   short = short;
   starts = omega arith;
-  scratch = ready-scratch m s t o o′;
+  scratch = ready-scratch m s t l p;
 }

@@ -16,7 +16,7 @@ use Rattle.paper.specs.Match.{wrap, wholeMatch, search, matchSteps, searchSteps
 use Rattle.paper.specs.Tables.{placeNumbers, decode}
 use Rattle.paper.specs.Replace.{moved}
 use Rattle.paper.proofs.MovedMachine.{movedStopped}
-use Rattle.visit.specs.Threads.{threadNumbers}
+use Rattle.visit.specs.Threads.{threadNumbers, branchNumbers}
 use Rattle.run.specs.Steps.{stoppedAs}
 use Rattle.places.specs.Laid.{Readable}
 use Rattle.matcher.specs.declared.Built.{Built}
@@ -47,19 +47,26 @@ abbrev pub Builds : List ℕ → Bool → List ℕ → List ℕ → Built → Ty
 Builds pattern searches before after (Refused number place) = (patternOf pattern ≡ refused number place) × (after ≡ before)
 Builds pattern searches before after (Machine places deep many) = (m : Ready pattern after searches places deep) × (many ≡ groups (m .tree))
 
+-- how many numbers the two lists of threads have, each with an entry more for the winner, and the branches that wait
+abbrev pub listsNumbers : ℕ → ℕ
+listsNumbers places = 2 * (threadNumbers * (places + 1))
+
+abbrev pub pendingNumbers : ℕ → ℕ
+pendingNumbers places = branchNumbers * (2 * places)
+
 -- the scratch is long enough
-pub record Scratch (places deep : ℕ) (seen taken one other : List ℕ) : Type 0 where
+pub record Scratch (places deep : ℕ) (seen taken lists pending : List ℕ) : Type 0 where
   pub seen-long : places * (deep + 1) ≤ length seen
   pub taken-long : places ≤ length taken
-  pub one-long : threadNumbers * (places + 1) ≤ length one
-  pub other-long : threadNumbers * (places + 1) ≤ length other
+  pub lists-long : listsNumbers places ≤ length lists
+  pub pending-long : pendingNumbers places ≤ length pending
 
 -- what a run from a position asks: tables as building left them, a line within the limit, and scratch
-pub record Runnable (pattern code line : List ℕ) (searches : Bool) (places deep from : ℕ) (seen taken one other : List ℕ) : Type 0 where
+pub record Runnable (pattern code line : List ℕ) (searches : Bool) (places deep from : ℕ) (seen taken lists pending : List ℕ) : Type 0 where
   pub ready : Ready pattern code searches places deep
   pub short : length line ≤ lineBytes
   pub starts : from ≤ length line
-  pub scratch : Scratch places deep seen taken one other
+  pub scratch : Scratch places deep seen taken lists pending
 
 -- what it promises: the list machine's end on the rest of the line, the rows as places in the whole line
 abbrev pub RunsFrom : List ℕ → List ℕ → List ℕ → ℕ → ℕ → ℕ → Bool → ℕ → Rows → Type 0

@@ -25,8 +25,10 @@ impl Machine {
     pub const CODE: usize = 4 * Machine::PLACES;
     // a pair of a place and a level: the depth is below the levels of the records
     pub const PAIRS: usize = Machine::PLACES * Pattern::LEVELS;
-    // a place and its rows for each thread, and one more for the winner
-    pub const LIST: usize = (1 + Spans::NUMBERS) * (Machine::PLACES + 1);
+    // two lists of threads, each with one more for the winner
+    pub const LISTS: usize = 2 * visit::THREAD * (Machine::PLACES + 1);
+    // the branches that wait: at most two for each place
+    pub const PENDING: usize = visit::BRANCH * 2 * Machine::PLACES;
     // the most steps that can be told
     pub const STEPS: usize = 4294967295;
 }
@@ -99,10 +101,10 @@ pub fn run_built(
     from: usize,
     seen: &mut [u16],
     taken: &mut [u16],
-    one: &mut [u16],
-    other: &mut [u16],
+    lists: &mut [u16],
+    pending: &mut [u16],
 ) -> Ran
-    requires { ⌜ ((searches : Bool) × Runnable (now pattern) (now code) (now line) searches places depth from (now seen) (now taken) (now one) (now other)) ⌝ }
+    requires { ⌜ ((searches : Bool) × Runnable (now pattern) (now code) (now line) searches places depth from (now seen) (now taken) (now lists) (now pending)) ⌝ }
     ensures { λ r. ⌜ RunsFrom (now (pattern .entry)) (now (code .entry)) (now (line .entry)) places depth from (r .matched) (r .steps) (r .rows) ⌝ }
 {
     let cells = places * (depth + 1);
@@ -112,8 +114,8 @@ pub fn run_built(
         line,
         &mut seen[0..cells],
         &mut taken[0..places],
-        one,
-        other,
+        lists,
+        pending,
         places,
         from as u16,
     )
@@ -148,10 +150,10 @@ pub fn match_rows(
     line: &[u8],
     seen: &mut [u16],
     taken: &mut [u16],
-    one: &mut [u16],
-    other: &mut [u16],
+    lists: &mut [u16],
+    pending: &mut [u16],
 ) -> Ran
-    requires { ⌜ Runnable (now pattern) (now code) (now line) false places depth 0 (now seen) (now taken) (now one) (now other) ⌝ }
+    requires { ⌜ Runnable (now pattern) (now code) (now line) false places depth 0 (now seen) (now taken) (now lists) (now pending) ⌝ }
     ensures { λ r. ⌜ MatchGives (now (pattern .entry)) (now (line .entry)) (r .matched) (r .steps) (r .rows) ⌝ }
 {
     let ran = run_built(
@@ -163,8 +165,8 @@ pub fn match_rows(
         0,
         seen,
         taken,
-        one,
-        other,
+        lists,
+        pending,
     );
     let mut rows = ran.rows;
     rows[0] = 0;
@@ -182,10 +184,10 @@ pub fn search_rows(
     from: usize,
     seen: &mut [u16],
     taken: &mut [u16],
-    one: &mut [u16],
-    other: &mut [u16],
+    lists: &mut [u16],
+    pending: &mut [u16],
 ) -> Ran
-    requires { ⌜ Runnable (now pattern) (now code) (now line) true places depth from (now seen) (now taken) (now one) (now other) ⌝ }
+    requires { ⌜ Runnable (now pattern) (now code) (now line) true places depth from (now seen) (now taken) (now lists) (now pending) ⌝ }
     ensures { λ r. ⌜ SearchGives (now (pattern .entry)) (now (line .entry)) from (r .matched) (r .steps) (r .rows) ⌝ }
 {
     let ran = run_built(
@@ -197,8 +199,8 @@ pub fn search_rows(
         from,
         seen,
         taken,
-        one,
-        other,
+        lists,
+        pending,
     );
     let rows = ran.rows;
     found(ran.matched, ran.steps, rows)
@@ -218,8 +220,8 @@ fn find(
 {
     let mut seen = [0u16; Machine::PAIRS];
     let mut taken = [0u16; Machine::PLACES];
-    let mut one = [0u16; Machine::LIST];
-    let mut other = [0u16; Machine::LIST];
+    let mut lists = [0u16; Machine::LISTS];
+    let mut pending = [0u16; Machine::PENDING];
     if searches {
         search_rows(
             pattern,
@@ -230,8 +232,8 @@ fn find(
             0,
             &mut seen,
             &mut taken,
-            &mut one,
-            &mut other,
+            &mut lists,
+            &mut pending,
         )
     } else {
         match_rows(
@@ -242,8 +244,8 @@ fn find(
             line,
             &mut seen,
             &mut taken,
-            &mut one,
-            &mut other,
+            &mut lists,
+            &mut pending,
         )
     }
 }

@@ -45,7 +45,7 @@ run-requires c κs =
     let the-pre = c .before .before .before .before .before .before .before .before .before .before .before .pre in
     let the-run-arg = c .before .before .before .run-arg in
     let the-run-arg2 = c .before .before .run-arg2 in
-    runs-safely (the-pre .1 .ready) (omega (arith, the-run-arg .given)) (omega (arith, the-run-arg2 .given)) (the-pre .1 .scratch .one-long) (the-pre .1 .scratch .other-long) (the-pre .1 .short) (the-pre .1 .starts)
+    runs-safely (the-pre .1 .ready) (omega (arith, the-run-arg .given)) (omega (arith, the-run-arg2 .given)) (the-pre .1 .scratch .lists-long) (the-pre .1 .scratch .pending-long) (the-pre .1 .short) (the-pre .1 .starts)
 
 same-length : tie.Need-same-length
 same-length c = search needs
