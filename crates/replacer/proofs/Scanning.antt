@@ -47,8 +47,8 @@ runs-on r from inside a′ b′ c′ d′ kept =
           record {
             seen-long = omega (arith, r .scratch .seen-long, kept .first);
             taken-long = omega (arith, r .scratch .taken-long, kept .second);
-            one-long = omega (arith, r .scratch .one-long, kept .third);
-            other-long = omega (arith, r .scratch .other-long, kept .fourth);
+            lists-long = omega (arith, r .scratch .lists-long, kept .third);
+            pending-long = omega (arith, r .scratch .pending-long, kept .fourth);
           };
     }
 

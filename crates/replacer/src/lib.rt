@@ -48,8 +48,8 @@ fn replace_within(
 {
     let mut seen = [0u16; Machine::PAIRS];
     let mut taken = [0u16; Machine::PLACES];
-    let mut one = [0u16; Machine::LIST];
-    let mut other = [0u16; Machine::LIST];
+    let mut lists = [0u16; Machine::LISTS];
+    let mut pending = [0u16; Machine::PENDING];
     let measured = scans::measure(
         pattern,
         code,
@@ -59,8 +59,8 @@ fn replace_within(
         line,
         &mut seen,
         &mut taken,
-        &mut one,
-        &mut other,
+        &mut lists,
+        &mut pending,
     );
     if buffer.len() < measured.length {
         return Replaced::Refused {
@@ -77,8 +77,8 @@ fn replace_within(
         line,
         &mut seen,
         &mut taken,
-        &mut one,
-        &mut other,
+        &mut lists,
+        &mut pending,
         buffer,
     );
     Replaced::Done {

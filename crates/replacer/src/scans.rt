@@ -26,12 +26,12 @@ fn search_turn(
     line: &[u8],
     seen: &mut [u16],
     taken: &mut [u16],
-    one: &mut [u16],
-    other: &mut [u16],
+    lists: &mut [u16],
+    pending: &mut [u16],
     from: usize,
     last: usize,
 ) -> Turn
-    requires { ⌜ Runnable (now pattern) (now code) (now line) Bool.true places depth from (now seen) (now taken) (now one) (now other) ⌝ }
+    requires { ⌜ Runnable (now pattern) (now code) (now line) Bool.true places depth from (now seen) (now taken) (now lists) (now pending) ⌝ }
     ensures { λ r. ⌜ Turns (now (pattern .entry)) (now (line .entry)) from last r ⌝ }
 {
     let ran = matcher::search_rows(
@@ -43,8 +43,8 @@ fn search_turn(
         from,
         seen,
         taken,
-        one,
-        other,
+        lists,
+        pending,
     );
     let rows = ran.rows;
     turns::turn_of(line.len(), last, ran.matched, rows, ran.steps)
@@ -67,10 +67,10 @@ pub fn measure(
     line: &[u8],
     seen: &mut [u16],
     taken: &mut [u16],
-    one: &mut [u16],
-    other: &mut [u16],
+    lists: &mut [u16],
+    pending: &mut [u16],
 ) -> Measured
-    requires { ⌜ Right (now template) × Runnable (now pattern) (now code) (now line) Bool.true places depth 0 (now seen) (now taken) (now one) (now other) ⌝ }
+    requires { ⌜ Right (now template) × Runnable (now pattern) (now code) (now line) Bool.true places depth 0 (now seen) (now taken) (now lists) (now pending) ⌝ }
     ensures { λ r. ⌜ Measures (now (pattern .entry)) (now (template .entry)) (now (line .entry)) r ⌝ }
 {
     let mut from = 0;
@@ -88,8 +88,8 @@ pub fn measure(
             line,
             seen,
             taken,
-            one,
-            other,
+            lists,
+            pending,
             from,
             last,
         );
@@ -117,11 +117,11 @@ pub fn write(
     line: &[u8],
     seen: &mut [u16],
     taken: &mut [u16],
-    one: &mut [u16],
-    other: &mut [u16],
+    lists: &mut [u16],
+    pending: &mut [u16],
     buffer: &mut [u8],
 )
-    requires { ⌜ Right (now template) × Runnable (now pattern) (now code) (now line) Bool.true places depth 0 (now seen) (now taken) (now one) (now other) × (length (wholeOf (now pattern) (now template) (now line) .output) ≤ length (now buffer)) ⌝ }
+    requires { ⌜ Right (now template) × Runnable (now pattern) (now code) (now line) Bool.true places depth 0 (now seen) (now taken) (now lists) (now pending) × (length (wholeOf (now pattern) (now template) (now line) .output) ≤ length (now buffer)) ⌝ }
     ensures { λ _. ⌜ now (buffer .exit) ≡ wholeOf (now (pattern .entry)) (now (template .entry)) (now (line .entry)) .output ++ drop (length (wholeOf (now (pattern .entry)) (now (template .entry)) (now (line .entry)) .output)) (now (buffer .entry)) ⌝ }
 {
     let mut from = 0;
@@ -137,8 +137,8 @@ pub fn write(
             line,
             seen,
             taken,
-            one,
-            other,
+            lists,
+            pending,
             from,
             last,
         );

@@ -8,25 +8,25 @@ use Rattle.replacer.proofs.scans.measure.Statement.{statement}
 use Rattle.replacer.proofs.scans.measure.Tie as tie
 
 abbrev Inv-loop : tie.InvT-loop
-Inv-loop pattern code places depth template line seen₀ taken₀ one₀ other₀ from₀ last₀ goes₀ total₀ replacements₀ steps₀ seen taken one other from last goes total replacements steps =
-    Kept seen₀ taken₀ one₀ other₀ seen taken one other × Summing pattern template line from last goes total replacements steps
+Inv-loop pattern code places depth template line seen₀ taken₀ lists₀ pending₀ from₀ last₀ goes₀ total₀ replacements₀ steps₀ seen taken lists pending from last goes total replacements steps =
+    Kept seen₀ taken₀ lists₀ pending₀ seen taken lists pending × Summing pattern template line from last goes total replacements steps
 
 abbrev μ-loop : tie.MeasureT-loop
-μ-loop pattern code places depth template line seen₀ taken₀ one₀ other₀ from₀ last₀ goes₀ total₀ replacements₀ steps₀ seen taken one other from last goes total replacements steps =
+μ-loop pattern code places depth template line seen₀ taken₀ lists₀ pending₀ from₀ last₀ goes₀ total₀ replacements₀ steps₀ seen taken lists pending from last goes total replacements steps =
     ahead line goes from
 
 loop-holds : tie.Need-loop-holds Inv-loop μ-loop
 loop-holds c =
     let the-args = c .before .before .before .before .before .before .before .before .args in
     let the-pre = c .before .before .before .before .before .before .before .before .pre in
-    (kept-start (the-args .seen .now) (the-args .taken .now) (the-args .one .now) (the-args .other .now), sum-start (the-args .pattern .now) (the-args .template .now) (the-args .line .now) (the-pre .1 .short))
+    (kept-start (the-args .seen .now) (the-args .taken .now) (the-args .lists .now) (the-args .pending .now), sum-start (the-args .pattern .now) (the-args .template .now) (the-args .line .now) (the-pre .1 .short))
 
 search-turn-requires : tie.Need-search-turn-requires Inv-loop μ-loop
 search-turn-requires c κs =
     let the-pre = c .before .before .before .before .before .before .before .before .before .before .before .before .before .before .pre in
     let the-loop = c .before .before .before .before .before .loop in
     let the-loop-test = c .before .before .before .before .loop-test in
-    runs-on (the-pre .1) (the-loop .from) (the-loop .inv .1 .inside (the-loop-test .taken)) (the-loop .seen) (the-loop .taken) (the-loop .one) (the-loop .other) (the-loop .inv .0)
+    runs-on (the-pre .1) (the-loop .from) (the-loop .inv .1 .inside (the-loop-test .taken)) (the-loop .seen) (the-loop .taken) (the-loop .lists) (the-loop .pending) (the-loop .inv .0)
 
 turn-length-requires : tie.Need-turn-length-requires Inv-loop μ-loop
 turn-length-requires c κs =

@@ -5,25 +5,25 @@ use Rattle.replacer.proofs.scans.write.Statement.{statement}
 use Rattle.replacer.proofs.scans.write.Tie as tie
 
 abbrev Inv-loop : tie.InvT-loop
-Inv-loop pattern code places depth template line seen₀ taken₀ one₀ other₀ buffer₀ from₀ last₀ goes₀ at₀ seen taken one other buffer from last goes at =
-    Kept seen₀ taken₀ one₀ other₀ seen taken one other × Filling pattern template line buffer₀ from last goes buffer at
+Inv-loop pattern code places depth template line seen₀ taken₀ lists₀ pending₀ buffer₀ from₀ last₀ goes₀ at₀ seen taken lists pending buffer from last goes at =
+    Kept seen₀ taken₀ lists₀ pending₀ seen taken lists pending × Filling pattern template line buffer₀ from last goes buffer at
 
 abbrev μ-loop : tie.MeasureT-loop
-μ-loop pattern code places depth template line seen₀ taken₀ one₀ other₀ buffer₀ from₀ last₀ goes₀ at₀ seen taken one other buffer from last goes at =
+μ-loop pattern code places depth template line seen₀ taken₀ lists₀ pending₀ buffer₀ from₀ last₀ goes₀ at₀ seen taken lists pending buffer from last goes at =
     ahead line goes from
 
 loop-holds : tie.Need-loop-holds Inv-loop μ-loop
 loop-holds c =
     let the-args = c .before .before .before .before .before .before .before .before .before .args in
     let the-pre = c .before .before .before .before .before .before .before .before .before .pre in
-    (kept-start (the-args .seen .now) (the-args .taken .now) (the-args .one .now) (the-args .other .now), fill-start (the-args .pattern .now) (the-args .template .now) (the-args .line .now) (the-pre .1 .short) (the-args .buffer .now))
+    (kept-start (the-args .seen .now) (the-args .taken .now) (the-args .lists .now) (the-args .pending .now), fill-start (the-args .pattern .now) (the-args .template .now) (the-args .line .now) (the-pre .1 .short) (the-args .buffer .now))
 
 search-turn-requires : tie.Need-search-turn-requires Inv-loop μ-loop
 search-turn-requires c κs =
     let the-pre = c .before .before .before .before .before .before .before .before .before .before .before .before .before .before .before .pre in
     let the-loop = c .before .before .before .before .before .loop in
     let the-loop-test = c .before .before .before .before .loop-test in
-    runs-on (the-pre .1) (the-loop .from) (the-loop .inv .1 .inside (the-loop-test .taken)) (the-loop .seen) (the-loop .taken) (the-loop .one) (the-loop .other) (the-loop .inv .0)
+    runs-on (the-pre .1) (the-loop .from) (the-loop .inv .1 .inside (the-loop-test .taken)) (the-loop .seen) (the-loop .taken) (the-loop .lists) (the-loop .pending) (the-loop .inv .0)
 
 write-turn-requires : tie.Need-write-turn-requires Inv-loop μ-loop
 write-turn-requires c κs =
