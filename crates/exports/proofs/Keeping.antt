@@ -74,12 +74,12 @@ ready-behind {pattern} machine {searches} {places} {deep} m =
     (sym (take-all (length machine - headNumbers) (drop headNumbers machine) (omega (arith, length-drop headNumbers machine)))) m
 
 -- four memories of which the shortest is long enough are scratch for it
-pub ready-in : {pattern code line : List ℕ} {searches : Bool} {places deep : ℕ} (seen taken one other : List ℕ) (flag : Bool) → searches ≡ flag
-    → Ready pattern code searches places deep → length line ≤ lineBytes → scratchNumbers ≤ shortest seen taken one other
-    → Runnable pattern code line flag places deep 0 seen taken one other
-ready-in {pattern} {code} {places = places} {deep = deep} seen taken one other flag same m short room =
+pub ready-in : {pattern code line : List ℕ} {searches : Bool} {places deep : ℕ} (seen taken lists pending : List ℕ) (flag : Bool) → searches ≡ flag
+    → Ready pattern code searches places deep → length line ≤ lineBytes → scratchNumbers ≤ shortest seen taken lists pending
+    → Runnable pattern code line flag places deep 0 seen taken lists pending
+ready-in {pattern} {code} {places = places} {deep = deep} seen taken lists pending flag same m short room =
     let front = min (length seen) (length taken) in
-    let back = min (length one) (length other) in
+    let back = min (length lists) (length pending) in
     let front-long : scratchNumbers ≤ front = omega (arith, min-le-left front back) in
     let back-long : scratchNumbers ≤ back = omega (arith, min-le-right front back) in
     record {
@@ -89,8 +89,8 @@ ready-in {pattern} {code} {places = places} {deep = deep} seen taken one other f
       scratch = record {
         seen-long = omega (arith, ready-pairs m, min-le-left (length seen) (length taken));
         taken-long = omega (arith, ready-places m, min-le-right (length seen) (length taken));
-        one-long = omega (arith, ready-places m, min-le-left (length one) (length other));
-        other-long = omega (arith, ready-places m, min-le-right (length one) (length other));
+        lists-long = omega (arith, ready-places m, min-le-left (length lists) (length pending));
+        pending-long = omega (arith, ready-places m, min-le-right (length lists) (length pending));
       };
     }
 

@@ -8,9 +8,8 @@ use lib.ListN.{length, getD, drop}
 use Rattle.paper.specs.Refusal.{Checked, refused, accepted}
 use Rattle.paper.specs.Pattern.{groups}
 use Rattle.paper.specs.Check.{patternOf}
-use Rattle.visit.specs.Threads.{threadNumbers}
 use Rattle.places.specs.Asked.{mostPlaces, tableRoom}
-use Rattle.matcher.specs.Machine.{Ready}
+use Rattle.matcher.specs.Machine.{Ready, pendingNumbers}
 use Rattle.matcher.specs.declared.Built.{Built}
 use Rattle.matcher.specs.declared.Built.the-variants.{Refused, Machine}
 
@@ -32,7 +31,7 @@ abbrev pub machineNumbers : ℕ
 machineNumbers = headNumbers + tableRoom
 
 abbrev pub scratchNumbers : ℕ
-scratchNumbers = threadNumbers * (mostPlaces + 1)
+scratchNumbers = pendingNumbers mostPlaces
 
 -- the memory holds the machine of an accepted pattern
 abbrev pub MachineOf : List ℕ → List ℕ → Type 0
@@ -44,7 +43,7 @@ Runs pattern machine = machineNumbers ≤ length machine → MachineOf pattern m
 
 -- the length of the shortest of the four
 abbrev pub shortest : List ℕ → List ℕ → List ℕ → List ℕ → ℕ
-shortest seen taken one other = min (min (length seen) (length taken)) (min (length one) (length other))
+shortest seen taken lists pending = min (min (length seen) (length taken)) (min (length lists) (length pending))
 
 -- a machine in its memory, with the three numbers that are told
 pub record Holds (pattern : List ℕ) (searches : Bool) (machine : List ℕ) (places deep many : ℕ) : Type 0 where

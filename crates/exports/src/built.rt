@@ -73,10 +73,10 @@ fn find_in(
     line: &[u8],
     seen: &mut [u16],
     taken: &mut [u16],
-    one: &mut [u16],
-    other: &mut [u16],
+    lists: &mut [u16],
+    pending: &mut [u16],
 ) -> Ran
-    requires { ⌜ Ready (now pattern) (now code) searches places depth × (length (now line) ≤ lineBytes) × (scratchNumbers ≤ shortest (now seen) (now taken) (now one) (now other)) ⌝ }
+    requires { ⌜ Ready (now pattern) (now code) searches places depth × (length (now line) ≤ lineBytes) × (scratchNumbers ≤ shortest (now seen) (now taken) (now lists) (now pending)) ⌝ }
     ensures { λ r. ⌜ FoundGives searches (now (pattern .entry)) (now (line .entry)) (r .matched) (r .steps) (r .rows) ⌝ }
 {
     if searches {
@@ -89,11 +89,21 @@ fn find_in(
             0,
             seen,
             taken,
-            one,
-            other,
+            lists,
+            pending,
         )
     } else {
-        matcher::match_rows(pattern, code, places, depth, line, seen, taken, one, other)
+        matcher::match_rows(
+            pattern,
+            code,
+            places,
+            depth,
+            line,
+            seen,
+            taken,
+            lists,
+            pending,
+        )
     }
 }
 
@@ -104,11 +114,11 @@ fn run_in(
     line: &[u8],
     seen: &mut [u16],
     taken: &mut [u16],
-    one: &mut [u16],
-    other: &mut [u16],
+    lists: &mut [u16],
+    pending: &mut [u16],
     table: &mut [u16],
 ) -> Answer
-    requires { ⌜ (machineNumbers ≤ length (now machine)) × MachineOf (now pattern) (now machine) × (scratchNumbers ≤ shortest (now seen) (now taken) (now one) (now other)) ⌝ }
+    requires { ⌜ (machineNumbers ≤ length (now machine)) × MachineOf (now pattern) (now machine) × (scratchNumbers ≤ shortest (now seen) (now taken) (now lists) (now pending)) ⌝ }
     ensures { λ r. ⌜ Answers (searchesIn (now (machine .entry))) (now (pattern .entry)) (now (line .entry)) (now (table .entry)) r (now (table .exit)) ⌝ }
 {
     if Line::BYTES < line.len() {
@@ -135,8 +145,8 @@ fn run_in(
         line,
         seen,
         taken,
-        one,
-        other,
+        lists,
+        pending,
     );
     let rows = ran.rows;
     matcher::fill(table, rows);
@@ -158,13 +168,13 @@ pub extern "C" fn toj_run(
     line: &[u8],
     seen: &mut [u16],
     taken: &mut [u16],
-    one: &mut [u16],
-    other: &mut [u16],
+    lists: &mut [u16],
+    pending: &mut [u16],
     table: &mut [u16],
     out: &mut [u64],
 ) -> u32
     requires { ⌜ Runs (now pattern) (now machine) ⌝ }
-    ensures { λ r. ⌜ RunReplies (now (pattern .entry)) (now (machine .entry)) (now (line .entry)) (shortest (now (seen .entry)) (now (taken .entry)) (now (one .entry)) (now (other .entry))) (now (table .entry)) (now (table .exit)) (now (out .entry)) r (now (out .exit)) ⌝ }
+    ensures { λ r. ⌜ RunReplies (now (pattern .entry)) (now (machine .entry)) (now (line .entry)) (shortest (now (seen .entry)) (now (taken .entry)) (now (lists .entry)) (now (pending .entry))) (now (table .entry)) (now (table .exit)) (now (out .entry)) r (now (out .exit)) ⌝ }
 {
     if out.len() < 2 {
         return Status::SHORT;
@@ -173,12 +183,12 @@ pub extern "C" fn toj_run(
         return Status::SHORT;
     }
     let first = least(seen.len(), taken.len());
-    let second = least(one.len(), other.len());
+    let second = least(lists.len(), pending.len());
     if least(first, second) < Memory::SCRATCH {
         return Status::SHORT;
     }
     tell_found(
-        run_in(pattern, machine, line, seen, taken, one, other, table),
+        run_in(pattern, machine, line, seen, taken, lists, pending, table),
         out,
     )
 }

@@ -15,8 +15,8 @@ impl Memory {
     pub const HEAD: usize = 3;
     // these, and its table
     pub const MACHINE: usize = Memory::HEAD + matcher::Machine::CODE;
-    // a list of threads, which is the longest thing that a run needs
-    pub const SCRATCH: usize = matcher::Machine::LIST;
+    // the branches that wait, which are the longest thing that a run needs
+    pub const SCRATCH: usize = matcher::Machine::PENDING;
 }
 
 // The longest pattern.

@@ -16,14 +16,14 @@ search-rows-requires c κs =
     let the-args = c .before .before .before .before .before .before .before .before .before .before .before .before .args in
     let the-if1 = c .before .before .before .before .if1 in
     let the-pre = c .before .before .before .before .before .before .before .before .before .before .before .before .pre in
-    ready-in (the-args .seen .now) (the-args .taken .now) (the-args .one .now) (the-args .other .now) true (the-if1 .taken) (the-pre .0) (the-pre .1) (the-pre .2)
+    ready-in (the-args .seen .now) (the-args .taken .now) (the-args .lists .now) (the-args .pending .now) true (the-if1 .taken) (the-pre .0) (the-pre .1) (the-pre .2)
 
 match-rows-requires : tie.Need-match-rows-requires
 match-rows-requires c κs =
     let the-args = c .before .before .before .before .before .before .before .before .before .before .before .before .args in
     let the-if1 = c .before .before .before .before .if1 in
     let the-pre = c .before .before .before .before .before .before .before .before .before .before .before .before .pre in
-    ready-in (the-args .seen .now) (the-args .taken .now) (the-args .one .now) (the-args .other .now) false (the-if1 .left) (the-pre .0) (the-pre .1) (the-pre .2)
+    ready-in (the-args .seen .now) (the-args .taken .now) (the-args .lists .now) (the-args .pending .now) false (the-if1 .left) (the-pre .0) (the-pre .1) (the-pre .2)
 
 same-length : tie.Need-same-length
 same-length c = search needs
