@@ -76,13 +76,14 @@ uint32_t toj_build(const uint8_t *pattern, size_t pattern_len, uint32_t search,
                    uint16_t *machine, size_t machine_len, uint64_t *out, size_t out_len);
 
 /* Runs a built machine over a line: out, `table` and the answer as toj_match or toj_search, by what
- * the machine was built for. `seen`, `taken`, `one` and `other` (toj_scratch_numbers() numbers or
- * more each) may hold anything before and after. Refusals: 11, 12, 14.
+ * the machine was built for. `seen`, `taken`, `lists` and `pending` (toj_scratch_numbers() numbers
+ * or more each) may hold anything before and after. Refusals: 11, 12, 14.
  * REQUIRES: `machine` is as toj_build, answering TOJ_ANSWERED, left it for this very pattern. */
 uint32_t toj_run(const uint8_t *pattern, size_t pattern_len, const uint16_t *machine, size_t machine_len,
                  const uint8_t *line, size_t line_len, uint16_t *seen, size_t seen_len,
-                 uint16_t *taken, size_t taken_len, uint16_t *one, size_t one_len,
-                 uint16_t *other, size_t other_len, uint16_t *table, size_t table_len, uint64_t *out, size_t out_len);
+                 uint16_t *taken, size_t taken_len, uint16_t *lists, size_t lists_len,
+                 uint16_t *pending, size_t pending_len, uint16_t *table, size_t table_len,
+                 uint64_t *out, size_t out_len);
 
 #ifdef __cplusplus
 }

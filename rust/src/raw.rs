@@ -83,10 +83,10 @@ mod c {
             seen_len: usize,
             taken: *mut u16,
             taken_len: usize,
-            one: *mut u16,
-            one_len: usize,
-            other: *mut u16,
-            other_len: usize,
+            lists: *mut u16,
+            lists_len: usize,
+            pending: *mut u16,
+            pending_len: usize,
             table: *mut u16,
             table_len: usize,
             out: *mut u64,
@@ -243,7 +243,7 @@ impl Machine {
         let part = scratch.len() / PARTS;
         let (seen, rest) = scratch.split_at_mut(part);
         let (taken, rest) = rest.split_at_mut(part);
-        let (one, other) = rest.split_at_mut(part);
+        let (lists, pending) = rest.split_at_mut(part);
         // Safe: the machine is as `build` left it for this very pattern, by what `Machine` says of its fields.
         unsafe {
             c::toj_run(
@@ -257,10 +257,10 @@ impl Machine {
                 seen.len(),
                 taken.as_mut_ptr(),
                 taken.len(),
-                one.as_mut_ptr(),
-                one.len(),
-                other.as_mut_ptr(),
-                other.len(),
+                lists.as_mut_ptr(),
+                lists.len(),
+                pending.as_mut_ptr(),
+                pending.len(),
                 table.as_mut_ptr(),
                 table.len(),
                 out.as_mut_ptr(),
