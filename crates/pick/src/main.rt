@@ -46,15 +46,25 @@ fn answer_line(
     groups: usize,
     seen: &mut [u16],
     taken: &mut [u16],
-    one: &mut [u16],
-    other: &mut [u16],
+    lists: &mut [u16],
+    pending: &mut [u16],
     out: &mut [u8],
     number: u64,
     at: usize,
 ) -> usize
-    requires { ⌜ Runnable (now pattern) (now code) (now line) false places depth 0 (now seen) (now taken) (now one) (now other) ⌝ }
+    requires { ⌜ Runnable (now pattern) (now code) (now line) false places depth 0 (now seen) (now taken) (now lists) (now pending) ⌝ }
 {
-    let ran = matcher::match_rows(pattern, code, places, depth, line, seen, taken, one, other);
+    let ran = matcher::match_rows(
+        pattern,
+        code,
+        places,
+        depth,
+        line,
+        seen,
+        taken,
+        lists,
+        pending,
+    );
     let rows = ran.rows;
     job::print_line(
         out,
@@ -78,13 +88,13 @@ fn next_line(
     groups: usize,
     seen: &mut [u16],
     taken: &mut [u16],
-    one: &mut [u16],
-    other: &mut [u16],
+    lists: &mut [u16],
+    pending: &mut [u16],
     out: &mut [u8],
     number: u64,
     from: Progress,
 ) -> Progress
-    requires { ⌜ Lines (now buffer) (now pattern) (now code) places depth (now seen) (now taken) (now one) (now other) (from .window .start) (from .window .end) ⌝ }
+    requires { ⌜ Lines (now buffer) (now pattern) (now code) places depth (now seen) (now taken) (now lists) (now pending) (from .window .start) (from .window .end) ⌝ }
     ensures { λ r. ⌜ (r .window .start ≤ r .window .end) × (r .window .end ≤ length (now (buffer .entry))) ⌝ }
 {
     let was = from.window;
@@ -111,8 +121,8 @@ fn next_line(
                 groups,
                 seen,
                 taken,
-                one,
-                other,
+                lists,
+                pending,
                 out,
                 number,
                 printed,
@@ -140,12 +150,12 @@ fn all_lines(
     groups: usize,
     seen: &mut [u16],
     taken: &mut [u16],
-    one: &mut [u16],
-    other: &mut [u16],
+    lists: &mut [u16],
+    pending: &mut [u16],
     out: &mut [u8],
     from: Progress,
 ) -> usize
-    requires { ⌜ Lines (now buffer) (now pattern) (now code) places depth (now seen) (now taken) (now one) (now other) (from .window .start) (from .window .end) ⌝ }
+    requires { ⌜ Lines (now buffer) (now pattern) (now code) places depth (now seen) (now taken) (now lists) (now pending) (from .window .start) (from .window .end) ⌝ }
 {
     let mut now = from;
     let mut number: u64 = 0;
@@ -160,8 +170,8 @@ fn all_lines(
             groups,
             seen,
             taken,
-            one,
-            other,
+            lists,
+            pending,
             out,
             number,
             now,
@@ -181,11 +191,11 @@ fn with_pattern(
     code: &mut [u16],
     seen: &mut [u16],
     taken: &mut [u16],
-    one: &mut [u16],
-    other: &mut [u16],
+    lists: &mut [u16],
+    pending: &mut [u16],
     out: &mut [u8],
 ) -> usize
-    requires { ⌜ Tables (now buffer) (now code) (now seen) (now taken) (now one) (now other) (window .start) (window .end) ⌝ }
+    requires { ⌜ Tables (now buffer) (now code) (now seen) (now taken) (now lists) (now pending) (window .start) (window .end) ⌝ }
 {
     match matcher::build(pattern, false, code) {
         Built::Refused { number, place } => { job::print_refused(out, 0, number, place, false) }
@@ -204,8 +214,8 @@ fn with_pattern(
                 groups,
                 seen,
                 taken,
-                one,
-                other,
+                lists,
+                pending,
                 out,
                 Progress {
                     window,
@@ -224,11 +234,11 @@ fn whole_job(
     code: &mut [u16],
     seen: &mut [u16],
     taken: &mut [u16],
-    one: &mut [u16],
-    other: &mut [u16],
+    lists: &mut [u16],
+    pending: &mut [u16],
     out: &mut [u8],
 ) -> usize
-    requires { ⌜ Tables (now buffer) (now code) (now seen) (now taken) (now one) (now other) 0 0 ⌝ }
+    requires { ⌜ Tables (now buffer) (now code) (now seen) (now taken) (now lists) (now pending) 0 0 ⌝ }
 {
     let window = window::ready(
         buffer,
@@ -255,8 +265,8 @@ fn whole_job(
                 code,
                 seen,
                 taken,
-                one,
-                other,
+                lists,
+                pending,
                 out,
             )
         }
@@ -269,8 +279,8 @@ fn main() {
     let mut code = [0u16; Machine::CODE];
     let mut seen = [0u16; Machine::PAIRS];
     let mut taken = [0u16; Machine::PLACES];
-    let mut one = [0u16; Machine::LIST];
-    let mut other = [0u16; Machine::LIST];
+    let mut lists = [0u16; Machine::LISTS];
+    let mut pending = [0u16; Machine::PENDING];
     let mut out = io::large_buffer();
     let n = whole_job(
         &mut buffer,
@@ -278,8 +288,8 @@ fn main() {
         &mut code,
         &mut seen,
         &mut taken,
-        &mut one,
-        &mut other,
+        &mut lists,
+        &mut pending,
         &mut out,
     );
     printer::flush(&out, n);

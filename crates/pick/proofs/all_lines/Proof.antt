@@ -12,11 +12,11 @@ use Rattle.pick.proofs.all_lines.Lts as lts
 use Rattle.pick.proofs.next_line.Reads as next-line-reads
 
 abbrev Inv-loop : tie.InvT-loop
-Inv-loop buffer₀ pattern code places depth groups seen₀ taken₀ one₀ other₀ out₀ now₀ number₀ buffer seen taken one other out now number =
-    Lines buffer pattern code places depth seen taken one other (now .window .start) (now .window .end) × (length buffer ≡ length buffer₀) × (length seen ≡ length seen₀) × (length taken ≡ length taken₀) × (length one ≡ length one₀) × (length other ≡ length other₀) × (length out ≡ length out₀)
+Inv-loop buffer₀ pattern code places depth groups seen₀ taken₀ lists₀ pending₀ out₀ now₀ number₀ buffer seen taken lists pending out now number =
+    Lines buffer pattern code places depth seen taken lists pending (now .window .start) (now .window .end) × (length buffer ≡ length buffer₀) × (length seen ≡ length seen₀) × (length taken ≡ length taken₀) × (length lists ≡ length lists₀) × (length pending ≡ length pending₀) × (length out ≡ length out₀)
 
 abbrev μ-loop : tie.MeasureT-loop
-μ-loop buffer₀ pattern code places depth groups seen₀ taken₀ one₀ other₀ out₀ now₀ number₀ buffer seen taken one other out now number = 18446744073709551615 - number
+μ-loop buffer₀ pattern code places depth groups seen₀ taken₀ lists₀ pending₀ out₀ now₀ number₀ buffer seen taken lists pending out now number = 18446744073709551615 - number
 
 loop-holds : tie.Need-loop-holds Inv-loop μ-loop
 loop-holds c = search needs
@@ -56,8 +56,8 @@ loop-again c =
     let the-loop = c .before .before .before .before .before .before .before .before .before .before .before .before .before .before .before .before .before .before .before .before .before .before .loop in
     let the-seen = c .before .before .before .before .before .before .before .before .before .before .before .seen in
     let the-taken = c .before .before .before .before .before .before .before .before .before .taken in
-    let the-one = c .before .before .before .before .before .before .before .one in
-    let the-other = c .before .before .before .before .before .other in
+    let the-lists = c .before .before .before .before .before .before .before .lists in
+    let the-pending = c .before .before .before .before .before .pending in
     let the-next-line = c .before .before .before .before .before .before .before .before .before .before .before .before .before .before .next-line in
     let the-buffer = c .before .before .before .before .before .before .before .before .before .before .before .before .before .buffer in
     let the-out = c .before .before .before .out in
@@ -68,8 +68,8 @@ loop-again c =
         scratch = record {
           seen-long = omega (arith, room .seen-long, the-seen .given);
           taken-long = omega (arith, room .taken-long, the-taken .given);
-          one-long = omega (arith, room .one-long, the-one .given);
-          other-long = omega (arith, room .other-long, the-other .given);
+          lists-long = omega (arith, room .lists-long, the-lists .given);
+          pending-long = omega (arith, room .pending-long, the-pending .given);
         };
         forward = the-next-line .ensures .0;
         inside = omega (arith, the-next-line .ensures .1, the-buffer .given);
@@ -77,8 +77,8 @@ loop-again c =
       omega (arith, held .1, the-buffer .given),
       omega (arith, held .2, the-seen .given),
       omega (arith, held .3, the-taken .given),
-      omega (arith, held .4, the-one .given),
-      omega (arith, held .5, the-other .given),
+      omega (arith, held .4, the-lists .given),
+      omega (arith, held .5, the-pending .given),
       omega (arith, held .6, the-out .given),
     )
 

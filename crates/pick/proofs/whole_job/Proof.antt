@@ -78,8 +78,8 @@ with-pattern-requires c κs =
       code-long = given .code-long;
       seen-long = given .seen-long;
       taken-long = given .taken-long;
-      one-long = given .one-long;
-      other-long = given .other-long;
+      lists-long = given .lists-long;
+      pending-long = given .pending-long;
       forward = omega (arith, shown);
       inside = omega (arith, shown, the-ready .ensures, the-buffer .given);
     }

@@ -34,7 +34,7 @@ all-lines-requires c κs =
     let given = the-pre in
     record {
       ready = built .0;
-      scratch = ready-scratch (built .0) (given .seen-long) (given .taken-long) (given .one-long) (given .other-long);
+      scratch = ready-scratch (built .0) (given .seen-long) (given .taken-long) (given .lists-long) (given .pending-long);
       forward = given .forward;
       inside = given .inside;
     }
