@@ -2,10 +2,12 @@
 use Prim.Native.Nat.{ℕ, zero, suc, _+_, _*_, _≤_, _<_}
 use native.Mathlib.Omega.{arith}
 use native.Mathlib.Nat.{mul-le-mul, mul-le-mul-right, mul-comm, add-mul}
-use mathlib.Core.Path.{_≡_, sym, ap, subst, _∙_}
-use mathlib.Core.Bool.{Bool, true, false}
+use mathlib.Core.Path.{_≡_, refl, sym, ap, subst, _∙_}
+use mathlib.Core.Bool.{Bool, true, false, cond}
 use mathlib.Core.List.{List}
+use lib.Dec.{leb, ltb}
 use lib.ListN.{length, getD}
+use borrow.Author.Tests.{leb-true, ltb-true}
 use Rattle.paper.specs.Limits.{patternLevels, rowCount, lineBytes}
 use Rattle.paper.specs.Pattern.{Pattern, allPlaces, depth, groups}
 use Rattle.paper.specs.Layout.{Lawful}
@@ -18,7 +20,7 @@ use Rattle.visit.specs.Wired.{kindAt, nextAt, firstAt, manyAt, Slots, Wired}
 use Rattle.visit.proofs.Cells.{decode-at}
 use Rattle.places.specs.Laid.{Readable}
 use Rattle.places.specs.Asked.{mostPlaces}
-use Rattle.matcher.specs.Machine.{wrapped, firstGroup, Ready, listsNumbers, pendingNumbers, Scratch, Runnable}
+use Rattle.matcher.specs.Machine.{wrapped, firstGroup, Ready, listsNumbers, pendingNumbers, Scratch, smallPlaces, smallLevels, fitsSmall, Runnable}
 
 module _ (pattern : List ℕ) (deep : ℕ → ℕ) (places x : ℕ) where
   -- what is known of the place that four numbers stand for
@@ -141,24 +143,36 @@ ready-wired {pattern} {code} {searches} {places} {deep} m =
     (subst (λ (n : ℕ). decode code pattern n ≡ placesOf e (firstGroup searches)) same (m .decoded))
     (subst (λ (n : ℕ). (x : ℕ) → x < n → Readable code pattern x) same (m .readable))))
 
--- scratch of the tables' sizes is long enough for it, whichever lists it holds
+-- scratch of the sizes for so many places and levels is long enough for a machine that has no more
+module _ (most levels : ℕ) {seen taken lists pending : List ℕ} (s : length seen ≡ most * levels) (t : length taken ≡ most)
+    (l : length lists ≡ listsNumbers most) (p : length pending ≡ pendingNumbers most) where
+  scratch-of : {places deep : ℕ} → places ≤ most → deep + 1 ≤ levels → Scratch places deep seen taken lists pending
+  scratch-of few low = record {
+    seen-long = omega (arith, mul-le-mul few low, s);
+    taken-long = omega (arith, t);
+    lists-long = omega (arith, l);
+    pending-long = omega (arith, p);
+  }
+
+-- that for the largest machine for every one
 pub ready-scratch : {pattern code : List ℕ} {searches : Bool} {places deep : ℕ} → Ready pattern code searches places deep
     → {seen taken lists pending : List ℕ} → length seen ≡ mostPlaces * patternLevels → length taken ≡ mostPlaces → length lists ≡ listsNumbers mostPlaces
     → length pending ≡ pendingNumbers mostPlaces → Scratch places deep seen taken lists pending
-ready-scratch m s t l p = record {
-  seen-long = omega (arith, ready-pairs m, s);
-  taken-long = omega (arith, ready-places m, t);
-  lists-long = omega (arith, ready-places m, l);
-  pending-long = omega (arith, ready-places m, p);
-}
+ready-scratch m s t l p = scratch-of mostPlaces patternLevels s t l p (ready-places m .1) (ready-levels m)
 
--- from the line's start
-pub ready-runs : {pattern code line : List ℕ} {searches : Bool} {places deep : ℕ} {seen taken lists pending : List ℕ} (flag : Bool) → searches ≡ flag
-    → Ready pattern code searches places deep → length line ≤ lineBytes → length seen ≡ mostPlaces * patternLevels → length taken ≡ mostPlaces
-    → length lists ≡ listsNumbers mostPlaces → length pending ≡ pendingNumbers mostPlaces → Runnable pattern code line flag places deep 0 seen taken lists pending
-ready-runs {pattern} {code} {places = places} {deep = deep} flag same m short s t l p = record {
-  ready = subst (λ (b : Bool). Ready pattern code b places deep) same m;
-  short = short;
-  starts = omega arith;
-  scratch = ready-scratch m s t l p;
-}
+-- and small scratch for a small one
+pub small-scratch : {places deep : ℕ} → fitsSmall places deep ≡ true
+    → {seen taken lists pending : List ℕ} → length seen ≡ smallPlaces * smallLevels → length taken ≡ smallPlaces → length lists ≡ listsNumbers smallPlaces
+    → length pending ≡ pendingNumbers smallPlaces → Scratch places deep seen taken lists pending
+small-scratch {places} {deep} fits s t l p =
+    let (few, low) = look (leb places smallPlaces) refl fits in
+    scratch-of smallPlaces smallLevels s t l p few (omega arith)
+  where
+    look : (b : Bool) → leb places smallPlaces ≡ b → cond b (ltb deep smallLevels) false ≡ true → (places ≤ smallPlaces) × (deep < smallLevels)
+    look true e h = (leb-true places smallPlaces e, ltb-true deep smallLevels h)
+    look false e h = let z : _≡_ {A = ℕ} 0 1 = cc in absurd (omega arith)
+
+-- with it the machine can run from the line's start
+pub ready-runs : {pattern code line : List ℕ} {searches : Bool} {places deep : ℕ} {seen taken lists pending : List ℕ} → Ready pattern code searches places deep
+    → length line ≤ lineBytes → Scratch places deep seen taken lists pending → Runnable pattern code line searches places deep 0 seen taken lists pending
+ready-runs m short scratch = record { ready = m; short = short; starts = omega arith; scratch = scratch }

@@ -4,6 +4,7 @@ use mathlib.Core.Path.{_≡_}
 use mathlib.Core.Bool.{Bool, true, false, cond}
 use mathlib.Core.List.{List}
 use mathlib.Core.Option.{Option, Option·map}
+use lib.Dec.{leb, ltb}
 use lib.ListN.{length, drop}
 use Rattle.paper.specs.Limits.{lineBytes}
 use Rattle.paper.specs.Refusal.{refused, accepted}
@@ -60,6 +61,16 @@ pub record Scratch (places deep : ℕ) (seen taken lists pending : List ℕ) : T
   pub taken-long : places ≤ length taken
   pub lists-long : listsNumbers places ≤ length lists
   pub pending-long : pendingNumbers places ≤ length pending
+
+-- a machine of few places and levels, for which small scratch is enough
+abbrev pub smallPlaces : ℕ
+smallPlaces = 64
+
+abbrev pub smallLevels : ℕ
+smallLevels = 4
+
+abbrev pub fitsSmall : ℕ → ℕ → Bool
+fitsSmall places deep = cond (leb places smallPlaces) (ltb deep smallLevels) false
 
 -- what a run from a position asks: tables as building left them, a line within the limit, and scratch
 pub record Runnable (pattern code line : List ℕ) (searches : Bool) (places deep from : ℕ) (seen taken lists pending : List ℕ) : Type 0 where

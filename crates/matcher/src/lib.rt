@@ -13,7 +13,7 @@ ghost use Rattle.paper.specs.Limits.{tableNumbers, lineBytes};
 ghost use Rattle.places.specs.Asked.{tableRoom};
 ghost use Rattle.matcher.specs.Answer.{TellsSteps};
 ghost use Rattle.matcher.specs.Promise.{Matches, Searches, Answers};
-ghost use Rattle.matcher.specs.Machine.{Builds, Ready, Runnable, RunsFrom, OrNone, MatchGives, SearchGives, FoundGives};
+ghost use Rattle.matcher.specs.Machine.{Builds, Ready, Runnable, RunsFrom, OrNone, MatchGives, SearchGives, FoundGives, fitsSmall};
 
 // The sizes of a machine's tables, for the largest pattern with a search's wrap around it.
 pub struct Machine {}
@@ -31,6 +31,21 @@ impl Machine {
     pub const PENDING: usize = visit::BRANCH * 2 * Machine::PLACES;
     // the most steps that can be told
     pub const STEPS: usize = 4294967295;
+}
+
+// The sizes of the scratch for a machine of few places and levels, as most patterns have: a call that owns its scratch has less to clear.
+pub struct Small {}
+
+impl Small {
+    pub const PLACES: usize = 64;
+
+    pub const LEVELS: usize = 4;
+
+    pub const PAIRS: usize = Small::PLACES * Small::LEVELS;
+
+    pub const LISTS: usize = 2 * visit::THREAD * (Small::PLACES + 1);
+
+    pub const PENDING: usize = visit::BRANCH * 2 * Small::PLACES;
 }
 
 // What a whole match or a search answers. The rows stand in the lent table.
@@ -206,8 +221,52 @@ pub fn search_rows(
     found(ran.matched, ran.steps, rows)
 }
 
-// A whole match, or a search from the line's start, by a machine built for it, in scratch of its own.
-fn find(
+// A whole match, or a search from the line's start, by a machine built for it, in lent scratch.
+pub fn find_in(
+    pattern: &[u8],
+    code: &[u16],
+    searches: bool,
+    places: usize,
+    depth: usize,
+    line: &[u8],
+    seen: &mut [u16],
+    taken: &mut [u16],
+    lists: &mut [u16],
+    pending: &mut [u16],
+) -> Ran
+    requires { ⌜ Runnable (now pattern) (now code) (now line) searches places depth 0 (now seen) (now taken) (now lists) (now pending) ⌝ }
+    ensures { λ r. ⌜ FoundGives searches (now (pattern .entry)) (now (line .entry)) (r .matched) (r .steps) (r .rows) ⌝ }
+{
+    if searches {
+        search_rows(
+            pattern,
+            code,
+            places,
+            depth,
+            line,
+            0,
+            seen,
+            taken,
+            lists,
+            pending,
+        )
+    } else {
+        match_rows(
+            pattern,
+            code,
+            places,
+            depth,
+            line,
+            seen,
+            taken,
+            lists,
+            pending,
+        )
+    }
+}
+
+// The same in scratch of its own, for the largest machine.
+fn find_large(
     pattern: &[u8],
     code: &[u16],
     searches: bool,
@@ -222,31 +281,76 @@ fn find(
     let mut taken = [0u16; Machine::PLACES];
     let mut lists = [0u16; Machine::LISTS];
     let mut pending = [0u16; Machine::PENDING];
-    if searches {
-        search_rows(
-            pattern,
-            code,
-            places,
-            depth,
-            line,
-            0,
-            &mut seen,
-            &mut taken,
-            &mut lists,
-            &mut pending,
-        )
+    find_in(
+        pattern,
+        code,
+        searches,
+        places,
+        depth,
+        line,
+        &mut seen,
+        &mut taken,
+        &mut lists,
+        &mut pending,
+    )
+}
+
+// The same for a small one.
+fn find_small(
+    pattern: &[u8],
+    code: &[u16],
+    searches: bool,
+    places: usize,
+    depth: usize,
+    line: &[u8],
+) -> Ran
+    requires { ⌜ Ready (now pattern) (now code) searches places depth × (length (now line) ≤ lineBytes) × (fitsSmall places depth ≡ true) ⌝ }
+    ensures { λ r. ⌜ FoundGives searches (now (pattern .entry)) (now (line .entry)) (r .matched) (r .steps) (r .rows) ⌝ }
+{
+    let mut seen = [0u16; Small::PAIRS];
+    let mut taken = [0u16; Small::PLACES];
+    let mut lists = [0u16; Small::LISTS];
+    let mut pending = [0u16; Small::PENDING];
+    find_in(
+        pattern,
+        code,
+        searches,
+        places,
+        depth,
+        line,
+        &mut seen,
+        &mut taken,
+        &mut lists,
+        &mut pending,
+    )
+}
+
+// Whether small scratch is enough for a machine.
+pub fn is_small(places: usize, depth: usize) -> bool
+    ensures { λ r. ⌜ r ≡ fitsSmall places depth ⌝ }
+{
+    if places <= Small::PLACES {
+        return depth < Small::LEVELS;
+    }
+    false
+}
+
+// The same in scratch as large as the machine asks for.
+fn find(
+    pattern: &[u8],
+    code: &[u16],
+    searches: bool,
+    places: usize,
+    depth: usize,
+    line: &[u8],
+) -> Ran
+    requires { ⌜ Ready (now pattern) (now code) searches places depth × (length (now line) ≤ lineBytes) ⌝ }
+    ensures { λ r. ⌜ FoundGives searches (now (pattern .entry)) (now (line .entry)) (r .matched) (r .steps) (r .rows) ⌝ }
+{
+    if is_small(places, depth) {
+        find_small(pattern, code, searches, places, depth, line)
     } else {
-        match_rows(
-            pattern,
-            code,
-            places,
-            depth,
-            line,
-            &mut seen,
-            &mut taken,
-            &mut lists,
-            &mut pending,
-        )
+        find_large(pattern, code, searches, places, depth, line)
     }
 }
 
