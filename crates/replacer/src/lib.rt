@@ -5,19 +5,15 @@ mod writing;
 
 use matcher::Built;
 use matcher::Machine;
+use matcher::Small;
 use pattern::Line;
 use pattern::Refusal;
 use template::References;
 ghost use mathlib.Core.Path.{_≡_};
 ghost use mathlib.Core.Bool.{Bool};
-ghost use Prim.Native.Nat.{ℕ, _≤_};
-ghost use lib.ListN.{length};
-ghost use Rattle.paper.specs.Limits.{lineBytes};
-ghost use Rattle.paper.specs.Refusal.{accepted};
 ghost use Rattle.paper.specs.Pattern.{groups};
-ghost use Rattle.paper.specs.Template.{within};
-ghost use Rattle.matcher.specs.Machine.{Ready};
-ghost use Rattle.replacer.specs.Given.{treeOf, piecesOf, Right};
+ghost use Rattle.matcher.specs.Machine.{Ready, Scratch, fitsSmall};
+ghost use Rattle.replacer.specs.Given.{treeOf, Replaceable};
 ghost use Rattle.replacer.specs.Promise.{Replaces};
 
 // What replace-all answers: a refusal's number and place, or the output's length, the replacements and the sum of all searches' steps.
@@ -33,23 +29,23 @@ pub enum Replaced {
     },
 }
 
-// Refusal 13, else the output in the buffer: the scan is measured before the first byte is written.
-fn replace_within(
+// Refusal 13, else the output in the buffer, in lent scratch: the scan is measured before the first byte is written.
+fn replace_in(
     pattern: &[u8],
     code: &[u16],
     places: usize,
     depth: usize,
     template: &[u8],
     line: &[u8],
+    seen: &mut [u16],
+    taken: &mut [u16],
+    lists: &mut [u16],
+    pending: &mut [u16],
     buffer: &mut [u8],
 ) -> Replaced
-    requires { ⌜ Ready (now pattern) (now code) Bool.true places depth × Right (now template) × (within (piecesOf (now template)) (groups (treeOf (now pattern))) ≡ accepted tt) × (length (now line) ≤ lineBytes) ⌝ }
+    requires { ⌜ Replaceable (now pattern) (now code) places depth (now template) (now line) × Scratch places depth (now seen) (now taken) (now lists) (now pending) ⌝ }
     ensures { λ r. ⌜ Replaces (now (pattern .entry)) (now (template .entry)) (now (line .entry)) (now (buffer .entry)) r (now (buffer .exit)) ⌝ }
 {
-    let mut seen = [0u16; Machine::PAIRS];
-    let mut taken = [0u16; Machine::PLACES];
-    let mut lists = [0u16; Machine::LISTS];
-    let mut pending = [0u16; Machine::PENDING];
     let measured = scans::measure(
         pattern,
         code,
@@ -57,10 +53,10 @@ fn replace_within(
         depth,
         template,
         line,
-        &mut seen,
-        &mut taken,
-        &mut lists,
-        &mut pending,
+        seen,
+        taken,
+        lists,
+        pending,
     );
     if buffer.len() < measured.length {
         return Replaced::Refused {
@@ -75,16 +71,100 @@ fn replace_within(
         depth,
         template,
         line,
-        &mut seen,
-        &mut taken,
-        &mut lists,
-        &mut pending,
+        seen,
+        taken,
+        lists,
+        pending,
         buffer,
     );
     Replaced::Done {
         length: measured.length,
         replacements: measured.replacements,
         steps: measured.steps,
+    }
+}
+
+// The same in scratch of its own, for the largest machine.
+fn replace_large(
+    pattern: &[u8],
+    code: &[u16],
+    places: usize,
+    depth: usize,
+    template: &[u8],
+    line: &[u8],
+    buffer: &mut [u8],
+) -> Replaced
+    requires { ⌜ Replaceable (now pattern) (now code) places depth (now template) (now line) ⌝ }
+    ensures { λ r. ⌜ Replaces (now (pattern .entry)) (now (template .entry)) (now (line .entry)) (now (buffer .entry)) r (now (buffer .exit)) ⌝ }
+{
+    let mut seen = [0u16; Machine::PAIRS];
+    let mut taken = [0u16; Machine::PLACES];
+    let mut lists = [0u16; Machine::LISTS];
+    let mut pending = [0u16; Machine::PENDING];
+    replace_in(
+        pattern,
+        code,
+        places,
+        depth,
+        template,
+        line,
+        &mut seen,
+        &mut taken,
+        &mut lists,
+        &mut pending,
+        buffer,
+    )
+}
+
+// The same for a small one.
+fn replace_small(
+    pattern: &[u8],
+    code: &[u16],
+    places: usize,
+    depth: usize,
+    template: &[u8],
+    line: &[u8],
+    buffer: &mut [u8],
+) -> Replaced
+    requires { ⌜ Replaceable (now pattern) (now code) places depth (now template) (now line) × (fitsSmall places depth ≡ Bool.true) ⌝ }
+    ensures { λ r. ⌜ Replaces (now (pattern .entry)) (now (template .entry)) (now (line .entry)) (now (buffer .entry)) r (now (buffer .exit)) ⌝ }
+{
+    let mut seen = [0u16; Small::PAIRS];
+    let mut taken = [0u16; Small::PLACES];
+    let mut lists = [0u16; Small::LISTS];
+    let mut pending = [0u16; Small::PENDING];
+    replace_in(
+        pattern,
+        code,
+        places,
+        depth,
+        template,
+        line,
+        &mut seen,
+        &mut taken,
+        &mut lists,
+        &mut pending,
+        buffer,
+    )
+}
+
+// The same in scratch as large as the machine asks for.
+fn replace_within(
+    pattern: &[u8],
+    code: &[u16],
+    places: usize,
+    depth: usize,
+    template: &[u8],
+    line: &[u8],
+    buffer: &mut [u8],
+) -> Replaced
+    requires { ⌜ Replaceable (now pattern) (now code) places depth (now template) (now line) ⌝ }
+    ensures { λ r. ⌜ Replaces (now (pattern .entry)) (now (template .entry)) (now (line .entry)) (now (buffer .entry)) r (now (buffer .exit)) ⌝ }
+{
+    if matcher::is_small(places, depth) {
+        replace_small(pattern, code, places, depth, template, line, buffer)
+    } else {
+        replace_large(pattern, code, places, depth, template, line, buffer)
     }
 }
 

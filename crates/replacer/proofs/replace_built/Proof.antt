@@ -39,7 +39,7 @@ replace-within-requires c κs =
     let the-pre = c .before .before .before .before .before .before .before .before .before .before .pre in
     let the-if1 = c .before .if1 in
     let known = references-accepted (the-args .template .now) (groups (treeOf (the-args .pattern .now))) (sym (ap referencesOf (the-enum-told .given .1)) ∙ the-references-within .ensures ∙ ap (referencesCall (the-args .template .now)) (the-pre .1)) in
-    (the-pre .0, known .0, known .1, the-if1 .left)
+    record { ready = the-pre .0; right = known .0; low = known .1; short = the-if1 .left }
 
 returns-2 : tie.Need-returns-2
 returns-2 c =
