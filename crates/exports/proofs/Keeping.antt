@@ -16,7 +16,7 @@ use Rattle.matcher.specs.declared.Built.the-variants.{Refused, Machine}
 use Rattle.matcher.specs.Machine.{Ready, Runnable, Builds}
 use Rattle.matcher.specs.Answer.{answerOf}
 use Rattle.matcher.specs.Promise.{Answers}
-use Rattle.matcher.proofs.Wiring.{ready-places, ready-pairs}
+use Rattle.matcher.proofs.Wiring.{ready-places, ready-pairs, ready-runs}
 use Rattle.exports.specs.Told.{Numbered}
 use Rattle.exports.specs.Memory.{headNumbers, machineNumbers, scratchNumbers, shortest, MachineOf, Holds, BuildsIn}
 use Rattle.exports.proofs.Numbered.{match-numbered, search-numbered}
@@ -74,25 +74,20 @@ ready-behind {pattern} machine {searches} {places} {deep} m =
     (sym (take-all (length machine - headNumbers) (drop headNumbers machine) (omega (arith, length-drop headNumbers machine)))) m
 
 -- four memories of which the shortest is long enough are scratch for it
-pub ready-in : {pattern code line : List ℕ} {searches : Bool} {places deep : ℕ} (seen taken lists pending : List ℕ) (flag : Bool) → searches ≡ flag
+pub ready-in : {pattern code line : List ℕ} {searches : Bool} {places deep : ℕ} (seen taken lists pending : List ℕ)
     → Ready pattern code searches places deep → length line ≤ lineBytes → scratchNumbers ≤ shortest seen taken lists pending
-    → Runnable pattern code line flag places deep 0 seen taken lists pending
-ready-in {pattern} {code} {places = places} {deep = deep} seen taken lists pending flag same m short room =
+    → Runnable pattern code line searches places deep 0 seen taken lists pending
+ready-in seen taken lists pending m short room =
     let front = min (length seen) (length taken) in
     let back = min (length lists) (length pending) in
     let front-long : scratchNumbers ≤ front = omega (arith, min-le-left front back) in
     let back-long : scratchNumbers ≤ back = omega (arith, min-le-right front back) in
-    record {
-      ready = subst (λ (b : Bool). Ready pattern code b places deep) same m;
-      short = short;
-      starts = omega arith;
-      scratch = record {
-        seen-long = omega (arith, ready-pairs m, min-le-left (length seen) (length taken));
-        taken-long = omega (arith, ready-places m, min-le-right (length seen) (length taken));
-        lists-long = omega (arith, ready-places m, min-le-left (length lists) (length pending));
-        pending-long = omega (arith, ready-places m, min-le-right (length lists) (length pending));
-      };
-    }
+    ready-runs m short (record {
+      seen-long = omega (arith, ready-pairs m, min-le-left (length seen) (length taken));
+      taken-long = omega (arith, ready-places m, min-le-right (length seen) (length taken));
+      lists-long = omega (arith, ready-places m, min-le-left (length lists) (length pending));
+      pending-long = omega (arith, ready-places m, min-le-right (length lists) (length pending));
+    })
 
 -- what a run answers has a refusal's number, if it was refused
 pub answers-numbered : (searches : Bool) (pattern line table : List ℕ) (r : Answer) (after : List ℕ) → Answers searches pattern line table r after → Numbered (answerOf r)

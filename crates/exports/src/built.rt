@@ -8,15 +8,12 @@ use matcher::Built;
 use pattern::Line;
 use pattern::Refusal;
 use pattern::Spans;
-use run::Ran;
 ghost use mathlib.Core.Path.{_≡_};
 ghost use mathlib.Core.Bool.{Bool, true, false};
 ghost use Prim.Native.Nat.{_≤_, min};
 ghost use lib.Dec.{ltb};
 ghost use lib.ListN.{length};
-ghost use Rattle.paper.specs.Limits.{lineBytes};
 ghost use Rattle.matcher.specs.Promise.{Answers};
-ghost use Rattle.matcher.specs.Machine.{Ready, FoundGives};
 ghost use Rattle.exports.specs.Memory.{machineNumbers, scratchNumbers, shortest, searchesIn, MachineOf, Runs, BuildsIn};
 ghost use Rattle.exports.specs.Replies.{BuildReplies, RunReplies};
 
@@ -63,50 +60,6 @@ pub extern "C" fn toj_build(
     tell_built(build_in(pattern, 0 < search, machine), out)
 }
 
-// A whole match or a search by a machine built for it, in lent scratch.
-fn find_in(
-    pattern: &[u8],
-    code: &[u16],
-    searches: bool,
-    places: usize,
-    depth: usize,
-    line: &[u8],
-    seen: &mut [u16],
-    taken: &mut [u16],
-    lists: &mut [u16],
-    pending: &mut [u16],
-) -> Ran
-    requires { ⌜ Ready (now pattern) (now code) searches places depth × (length (now line) ≤ lineBytes) × (scratchNumbers ≤ shortest (now seen) (now taken) (now lists) (now pending)) ⌝ }
-    ensures { λ r. ⌜ FoundGives searches (now (pattern .entry)) (now (line .entry)) (r .matched) (r .steps) (r .rows) ⌝ }
-{
-    if searches {
-        matcher::search_rows(
-            pattern,
-            code,
-            places,
-            depth,
-            line,
-            0,
-            seen,
-            taken,
-            lists,
-            pending,
-        )
-    } else {
-        matcher::match_rows(
-            pattern,
-            code,
-            places,
-            depth,
-            line,
-            seen,
-            taken,
-            lists,
-            pending,
-        )
-    }
-}
-
 // Refusals 11 and 12, else what the machine finds, its rows in the table.
 fn run_in(
     pattern: &[u8],
@@ -136,7 +89,7 @@ fn run_in(
     let places = machine[0] as usize;
     let depth = machine[1] as usize;
     let searches = machine[2] == 1;
-    let ran = find_in(
+    let ran = matcher::find_in(
         pattern,
         &machine[Memory::HEAD..],
         searches,

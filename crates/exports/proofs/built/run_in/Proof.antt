@@ -2,14 +2,14 @@
 use native.Mathlib.Omega.{arith}
 use Rattle.matcher.proofs.Answering.{refuses-line, refuses-table, answers}
 use Rattle.exports.specs.Memory.{searchesIn}
-use Rattle.exports.proofs.Keeping.{ready-behind}
+use Rattle.exports.proofs.Keeping.{ready-behind, ready-in}
 use borrow.Author.Needs.{needs}
 use Rattle.exports.proofs.built.run_in.Statement.{statement}
 use Rattle.exports.proofs.built.run_in.Tie as tie
 use Rattle.exports.proofs.built.run_in.Reads as reads
 use Rattle.exports.proofs.built.run_in.Lts as lts
-use Rattle.exports.proofs.built.find_in.Reads as find-in-reads
 use Rattle.matcher.proofs.fill.Reads as fill-reads
+use Rattle.matcher.proofs.find_in.Reads as find-in-reads
 use Rattle.matcher.proofs.told.Reads as told-reads
 
 returns : tie.Need-returns
@@ -60,7 +60,7 @@ find-in-requires c κs =
     let the-args = c .before .before .before .before .before .before .before .before .before .before .before .before .before .before .before .before .before .before .args in
     let the-pre = c .before .before .before .before .before .before .before .before .before .before .before .before .before .before .before .before .before .before .pre in
     let the-if1 = c .before .before .before .before .before .before .before .before .before .if1 in
-    (ready-behind (the-args .machine .now) (the-pre .1), the-if1 .left, the-pre .2)
+    ready-in (the-args .seen .now) (the-args .taken .now) (the-args .lists .now) (the-args .pending .now) (ready-behind (the-args .machine .now) (the-pre .1)) (the-if1 .left) (the-pre .2)
 
 fill-requires : tie.Need-fill-requires
 fill-requires c κs = search needs
