@@ -10,7 +10,7 @@ use lib.Dec.{eqb}
 use Rattle.paper.specs.Pattern.{Mode}
 use Rattle.paper.specs.Machine.{Core, skip, must, maybe, star, size, passFork, begin, beginOptional, ending}
 use Rattle.places.specs.Laid.{Holds, Lays, entryOf}
-use Rattle.places.specs.Asked.{optionalCore, passCore, passPlaces}
+use Rattle.places.specs.Asked.{optionalCore, passCore, passPlaces, innerStart}
 
 -- what has no places is entered at what follows it
 pub entry-none : (n base next : ℕ) → n ≡ 0 → entryOf n base next ≡ next
@@ -62,6 +62,20 @@ places-may least (suc may) p none some =
   where
     less : (k : ℕ) → suc k - 1 ≡ k
     less k = omega arith
+
+-- where the inner part of a pass that must be made stands
+pub inner-must : (least base : ℕ) → (least ≡ 0 → ⊥) → innerStart least base ≡ base + 1
+inner-must least base some = ap (λ (b : Bool). cond b (base + 2) (base + 1)) (ne-eqb least 0 some)
+
+-- and that of an optional one
+pub inner-may : (least base : ℕ) → least ≡ 0 → innerStart least base ≡ base + 2
+inner-may least base none = ap (λ (b : Bool). cond b (base + 2) (base + 1)) (eq-eqb least 0 none)
+
+-- the inner part of the first pass stands among the places of the passes
+pub first-inner : (least may base p : ℕ) → (least + may ≡ 0 → ⊥) → (base ≤ innerStart least base) × (innerStart least base + p ≤ base + passPlaces least may p)
+first-inner zero zero base p some = absurd (some (omega arith))
+first-inner zero (suc may) base p some = (omega arith, omega (arith, inner-may 0 base refl, places-may 0 (suc may) p refl (λ z. omega arith)))
+first-inner (suc least) may base p some = let e = inner-must (suc least) base (λ z. omega arith) in (omega arith, omega (arith, places-must (suc least) may p (λ z. omega arith)))
 
 module _ (mode : Mode) (first n : ℕ) (e : Core) where
   -- a run that begins with a pass that must be made

@@ -51,7 +51,7 @@ put-stored t x k v a n room =
     }
 
 -- numbers that agree stand for the same place
-agree : (p : List ℕ) {k k' v v' a a' n n' : ℕ} → k ≡ k' → v ≡ v' → a ≡ a' → n ≡ n' → placeOf p k v a n ≡ placeOf p k' v' a' n'
+pub agree : (p : List ℕ) {k k' v v' a a' n n' : ℕ} → k ≡ k' → v ≡ v' → a ≡ a' → n ≡ n' → placeOf p k v a n ≡ placeOf p k' v' a' n'
 agree p {k} {k'} {v} {v'} {a} {a'} {n} {n'} ek ev ea en =
     ap (λ (y : ℕ). placeOf p y v a n) ek ∙ ap (λ (y : ℕ). placeOf p k' y a n) ev ∙ ap (λ (y : ℕ). placeOf p k' v' y n) ea
     ∙ ap (λ (y : ℕ). placeOf p k' v' a' y) en
@@ -73,13 +73,17 @@ put-holds p w known ranges =
 pub plain-holds : {t t' : List ℕ} {x k v a n : ℕ} (p : List ℕ) → Put t x k v a n t' → k < 6 → Holds t' p x (placeOf p k v a n)
 plain-holds p w low = put-holds p w (omega arith) (λ e. absurd (omega arith))
 
--- a place below the changed part goes on to stand
-pub holds-kept : {low high x : ℕ} {t t' p : List ℕ} {q : Place} → Kept low high t t' → x < low → Holds t p x q → Holds t' p x q
-holds-kept {x = x} {t = t} {t' = t'} {p = p} k lt h =
-    let k0 = k .below (4 * x) (omega arith) in
-    let k1 = k .below (4 * x + 1) (omega arith) in
-    let k2 = k .below (4 * x + 2) (omega arith) in
-    let k3 = k .below (4 * x + 3) (omega arith) in
+-- the numbers of the places from `low` up to `high` are the same in two tables
+record Same (low high : ℕ) (t t' : List ℕ) : Type 0 where
+  numbers : (i : ℕ) → 4 * low ≤ i → i < 4 * high → getD t' i 0 ≡ getD t i 0
+
+-- a place whose numbers are the same goes on to stand
+holds-same : {low high x : ℕ} {t t' p : List ℕ} {q : Place} → Same low high t t' → low ≤ x → x < high → Holds t p x q → Holds t' p x q
+holds-same {x = x} {t = t} {t' = t'} {p = p} s le lt h =
+    let k0 = s .numbers (4 * x) (omega arith) (omega arith) in
+    let k1 = s .numbers (4 * x + 1) (omega arith) (omega arith) in
+    let k2 = s .numbers (4 * x + 2) (omega arith) (omega arith) in
+    let k3 = s .numbers (4 * x + 3) (omega arith) (omega arith) in
     record {
       decoded = agree p k0 k1 k2 k3 ∙ h .decoded;
       readable = record {
@@ -90,26 +94,39 @@ holds-kept {x = x} {t = t} {t' = t'} {p = p} k lt h =
     }
 
 -- so do all the places of a written-out pattern
-pub lays-kept : (c : Core) (p : List ℕ) (base next : ℕ) {low high : ℕ} {t t' : List ℕ} → Kept low high t t' → base + size c ≤ low → Lays t p c base next → Lays t' p c base next
-lays-kept dead p base next k le h = holds-kept k (omega arith) h
-lays-kept skip p base next k le h = tt
-lays-kept (eats ranges) p base next k le h = holds-kept k (omega arith) h
-lays-kept (captures g e) p base next k le h =
-    (holds-kept k (omega arith) (h .0), lays-kept e p _ _ k (omega arith) (h .1), holds-kept k (omega arith) (h .2))
-lays-kept (chain a b) p base next k le h = (lays-kept a p _ _ k (omega arith) (h .0), lays-kept b p _ _ k (omega arith) (h .1))
-lays-kept (either a b) p base next k le h =
-    (holds-kept k (omega arith) (h .0), lays-kept a p _ _ k (omega arith) (h .1), lays-kept b p _ _ k (omega arith) (h .2))
-lays-kept (must first n e then) p base next k le h =
-    (holds-kept k (omega arith) (h .0), lays-kept e p _ _ k (omega arith) (h .1), lays-kept then p _ _ k (omega arith) (h .2))
-lays-kept (maybe mode first n e then) p base next k le h = (
-  holds-kept k (omega arith) (h .0),
-  holds-kept k (omega arith) (h .1),
-  lays-kept e p _ _ k (omega arith) (h .2),
-  holds-kept k (omega arith) (h .3),
-  lays-kept then p _ _ k (omega arith) (h .4),
+lays-same : (c : Core) (p : List ℕ) (base next : ℕ) {low high : ℕ} {t t' : List ℕ} → Same low high t t' → low ≤ base → base + size c ≤ high
+    → Lays t p c base next → Lays t' p c base next
+lays-same dead p base next s lo hi h = holds-same s (omega arith) (omega arith) h
+lays-same skip p base next s lo hi h = tt
+lays-same (eats ranges) p base next s lo hi h = holds-same s (omega arith) (omega arith) h
+lays-same (captures g e) p base next s lo hi h =
+    (holds-same s (omega arith) (omega arith) (h .0), lays-same e p _ _ s (omega arith) (omega arith) (h .1), holds-same s (omega arith) (omega arith) (h .2))
+lays-same (chain a b) p base next s lo hi h = (lays-same a p _ _ s (omega arith) (omega arith) (h .0), lays-same b p _ _ s (omega arith) (omega arith) (h .1))
+lays-same (either a b) p base next s lo hi h =
+    (holds-same s (omega arith) (omega arith) (h .0), lays-same a p _ _ s (omega arith) (omega arith) (h .1), lays-same b p _ _ s (omega arith) (omega arith) (h .2))
+lays-same (must first n e then) p base next s lo hi h =
+    (holds-same s (omega arith) (omega arith) (h .0), lays-same e p _ _ s (omega arith) (omega arith) (h .1), lays-same then p _ _ s (omega arith) (omega arith) (h .2))
+lays-same (maybe mode first n e then) p base next s lo hi h = (
+  holds-same s (omega arith) (omega arith) (h .0),
+  holds-same s (omega arith) (omega arith) (h .1),
+  lays-same e p _ _ s (omega arith) (omega arith) (h .2),
+  holds-same s (omega arith) (omega arith) (h .3),
+  lays-same then p _ _ s (omega arith) (omega arith) (h .4),
 )
-lays-kept (star mode first n e) p base next k le h =
-    (holds-kept k (omega arith) (h .0), holds-kept k (omega arith) (h .1), lays-kept e p _ _ k (omega arith) (h .2), holds-kept k (omega arith) (h .3))
+lays-same (star mode first n e) p base next s lo hi h =
+    (holds-same s (omega arith) (omega arith) (h .0), holds-same s (omega arith) (omega arith) (h .1), lays-same e p _ _ s (omega arith) (omega arith) (h .2), holds-same s (omega arith) (omega arith) (h .3))
+
+-- a place below the changed part goes on to stand
+pub holds-kept : {low high x : ℕ} {t t' p : List ℕ} {q : Place} → Kept low high t t' → x < low → Holds t p x q → Holds t' p x q
+holds-kept {low} {x = x} k lt h = holds-same {low = 0} {high = low} (record { numbers = λ i le less. k .below i less }) (omega arith) lt h
+
+-- so do all the places of a written-out pattern
+pub lays-kept : (c : Core) (p : List ℕ) (base next : ℕ) {low high : ℕ} {t t' : List ℕ} → Kept low high t t' → base + size c ≤ low → Lays t p c base next → Lays t' p c base next
+lays-kept c p base next {low} k le h = lays-same c p base next {low = 0} {high = low} (record { numbers = λ i more less. k .below i less }) (omega arith) le h
+
+-- and those behind it
+pub lays-behind : (c : Core) (p : List ℕ) (base next : ℕ) {low high : ℕ} {t t' : List ℕ} → Kept low high t t' → high ≤ base → Lays t p c base next → Lays t' p c base next
+lays-behind c p base next k le h = lays-same c p base next {low = base} {high = base + size c} (record { numbers = λ i more less. k .behind i (omega arith) }) (omega arith) (omega arith) h
 
 -- what has no places is laid by any table
 pub lays-none : (c : Core) (t p : List ℕ) (base next : ℕ) → size c ≡ 0 → Lays t p c base next

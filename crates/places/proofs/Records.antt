@@ -5,10 +5,9 @@ use mathlib.Core.Bool.{Bool, true, false, cond}
 use mathlib.Core.List.{List, [], _∷_}
 use native.Mathlib.Numerals.{add-one}
 use native.Mathlib.Omega.{arith}
-use borrow.Author.Tests.{eq-eqb, ne-eqb}
 use lib.Dec.{eqb}
 use lib.ListN.{length}
-use Rattle.paper.specs.Pattern.{Upper, upTo, noEnd, Range, Pattern, places, groups, repeatPlaces}
+use Rattle.paper.specs.Pattern.{Mode, Upper, upTo, noEnd, Range, Pattern, places, groups, repeatPlaces}
 use Rattle.paper.specs.Pattern.Pattern.{repeat}
 use Rattle.paper.specs.Layout.{upperNumber}
 use Rattle.paper.specs.Check.{numberAt, bodyEnd, kindAt, upperOf, modeOf, part, rangesOf, repeatHead}
@@ -17,10 +16,10 @@ use Rattle.paper.proofs.Sizes.{size-written}
 use Rattle.paper.proofs.RepeatBody.{mode-of-number}
 use Rattle.places.specs.Laid.{Holds, Kept, Lays, entryOf}
 use Rattle.places.specs.Standing.{Stands, Row, UpperRight, placesIn, groupsIn, rowPlaces, rowCore}
-use Rattle.places.specs.Asked.{Put, Counting, Counted, One, OneLaid, HeadLaid, Several, SeveralLaid, Repeating, PassesLaid, Repeat, RepeatLaid}
+use Rattle.places.specs.Asked.{Put, Counting, Counted, One, OneLaid, HeadLaid, Several, SeveralLaid, CountsRight, passPlaces, passCore, optionalCount, innerStart, inPlace, Repeating, PassesLaid, Repeat, RepeatLaid}
 use Rattle.places.proofs.Laying.{holds-kept, plain-holds, put-holds, lays-kept, lays-none, kept-none, kept-both}
 use Rattle.places.proofs.Sizes.{row-size, optional-maybes}
-use Rattle.places.proofs.Entering.{entry-small}
+use Rattle.places.proofs.Entering.{entry-small, passes-none, first-inner}
 use Rattle.places.proofs.Adding.{upper-named, repeat-more, row-long}
 use Rattle.places.proofs.Views.{RowView, nothing-view, set-view, group-view, repeat-view, row-view}
 
@@ -34,6 +33,22 @@ repeat-counting m =
       short = m .inside .short;
       few = omega (arith, m .inside .few);
     }
+
+-- with an upper end and without: the places of the passes are the repeat's
+passes-places : (endless : Bool) (least most p : ℕ) → repeatPlaces least (cond endless noEnd (upTo most)) p ≡ passPlaces least (cond endless 1 (most - least)) p
+passes-places true least most p = omega arith
+passes-places false least most p = refl
+
+-- they are the repeat written out
+passes-core : (endless : Bool) (least most : ℕ) (mode : Mode) (first g : ℕ) (e : Core)
+    → musts least first g e (optionals least (cond endless noEnd (upTo most)) mode first g e) ≡ passCore least endless (cond endless 1 (most - least)) mode first g e
+passes-core true least most mode first g e = refl
+passes-core false least most mode first g e = ap (musts least first g e) (sym (optional-maybes (most - least) mode first g e))
+
+-- without an upper end there is one optional pass
+optional-once : (endless : Bool) (least most : ℕ) → endless ≡ true → cond endless 1 (most - least) ≤ 1
+optional-once true least most is = omega arith
+optional-once false least most is = let z : _≡_ {A = ℕ} 0 1 = cc in absurd (omega arith)
 
 -- the numbers that are read are the tree's
 module _ {bs : List ℕ} {start stop base next first least most mode p g k : ℕ} (m : Repeat bs start stop base next first)
@@ -56,10 +71,6 @@ module _ {bs : List ℕ} {start stop base next first least most mode p g k : ℕ
   pub places-is : p ≡ places (m .tree)
   places-is = omega (arith, c .sums (repeat-counting m) .places-are (omega (arith, m .small)))
 
-  -- there is room for the places of the repeat
-  pub room-is : base + repeatPlaces least (upperOf most) p ≤ 510
-  room-is = rw (least-is, upper-is, places-is) (m .room)
-
   bounded : (u : Upper) → most ≡ upperNumber u → UpperRight (m .least) u → (most ≡ 65535 → ⊥) → (m .least ≤ most) × (most ≤ 255)
   bounded (upTo k) e right not = (omega arith, omega arith)
   bounded noEnd e right not = absurd (not e)
@@ -70,78 +81,79 @@ module _ {bs : List ℕ} {start stop base next first least most mode p g k : ℕ
       let w = bounded (m .upper) (em ∙ m .numbers .upper-is) (m .numbers .right) not in
       (omega (arith, least-is), w .1)
 
-  -- a most that is a number
-  pub upper-bounded : (most ≡ 65535 → ⊥) → upperOf most ≡ upTo most
-  upper-bounded not = ap (λ (b : Bool). cond b noEnd (upTo most)) (ne-eqb most 65535 not)
+  -- the numbers are right
+  pub counts-right : CountsRight least most
+  counts-right = record { small = omega (arith, least-is, m .numbers .small); right = bounded-counts }
 
-  -- a most that stands for no upper end
-  pub upper-endless : most ≡ 65535 → upperOf most ≡ noEnd
-  upper-endless is = ap (λ (b : Bool). cond b noEnd (upTo most)) (eq-eqb most 65535 is)
+  -- the places of the passes are the repeat's
+  pub total : repeatPlaces (m .least) (m .upper) (places (m .tree)) ≡ passPlaces least (optionalCount least most) p
+  total = let e : repeatPlaces (m .least) (m .upper) (places (m .tree)) ≡ repeatPlaces least (upperOf most) p = rw (least-is, upper-is, places-is) in e ∙ passes-places (eqb most 65535) least most p
 
-  -- what the passes of a repeat with an upper end are asked for
-  abbrev pub bounded-ask : (most ≡ 65535 → ⊥) → Repeating bs (start + repeatHead) stop least (most - least) false base next first g p
-  bounded-ask not =
+  -- there is a pass
+  some-pass : least + optionalCount least most ≡ 0 → ⊥
+  some-pass none = m .some (total ∙ passes-none least (optionalCount least most) p none)
+
+  -- where the inner part of the first pass stands
+  pub inner-room : (base ≤ innerStart least base) × (innerStart least base + p ≤ base + passPlaces least (optionalCount least most) p)
+  inner-room = first-inner least (optionalCount least most) base p some-pass
+
+  -- what laying it asks for
+  abbrev pub inner-ask : {model : ℕ} → model ≡ innerStart least base → One bs (start + repeatHead) stop model (model + p) first p
+  inner-ask at =
       record {
         tree = m .tree;
         inside = m .inside;
-        groups-are = groups-is;
         places-are = places-is;
         small = omega (arith, m .small, places-is);
-        once = λ e. absurd (clash e);
-        room = omega (arith, subst (λ (u : Upper). base + repeatPlaces least u p ≤ 510) (upper-bounded not) room-is);
-        follows = m .follows;
+        room = omega (arith, at, inner-room, m .room, total);
+        follows = omega (arith, at, inner-room, m .room, total);
       }
-    where
-      clash : false ≡ true → ⊥
-      clash e = let z : _≡_ {A = ℕ} 0 1 = cc in omega arith
 
-  -- what those of one without are
-  abbrev pub endless-ask : most ≡ 65535 → Repeating bs (start + repeatHead) stop least 1 true base next first g p
-  endless-ask is =
-      record {
-        tree = m .tree;
-        inside = m .inside;
-        groups-are = groups-is;
-        places-are = places-is;
-        small = omega (arith, m .small, places-is);
-        once = λ e. omega arith;
-        room = omega (arith, subst (λ (u : Upper). base + repeatPlaces least u p ≤ 510) (upper-endless is) room-is);
+  -- what the passes are asked for
+  pub passes-ask : {model may : ℕ} → model ≡ innerStart least base → may ≡ optionalCount least most
+      → Repeating model p first g least may (eqb most 65535) base next
+  passes-ask {model} at em =
+      subst (λ (k : ℕ). Repeating model p first g least k (eqb most 65535) base next) (sym em)
+      (record {
+        first-small = omega (arith, m .inside .few);
+        groups-small = omega (arith, m .inside .few, groups-is);
+        once = optional-once (eqb most 65535) least most;
+        room = omega (arith, m .room, total);
         follows = m .follows;
-      }
+        stands = inPlace at;
+      })
 
   -- the tree written out, by the numbers that were read
   written : writtenOut (repeat (m .least) (m .upper) (m .mode) (m .tree)) first
-      ≡ musts least first g (writtenOut (m .tree) first) (optionals least (upperOf most) (modeOf mode) first g (writtenOut (m .tree) first))
-  written = rw (least-is, upper-is, mode-is, groups-is)
+      ≡ passCore least (eqb most 65535) (optionalCount least most) (modeOf mode) first g (writtenOut (m .tree) first)
+  written =
+      let e : writtenOut (repeat (m .least) (m .upper) (m .mode) (m .tree)) first
+      ≡ musts least first g (writtenOut (m .tree) first) (optionals least (upperOf most) (modeOf mode) first g (writtenOut (m .tree) first)) =
+      rw (least-is, upper-is, mode-is, groups-is) in
+      e ∙ passes-core (eqb most 65535) least most (modeOf mode) first g (writtenOut (m .tree) first)
 
-  total : repeatPlaces (m .least) (m .upper) (places (m .tree)) ≡ repeatPlaces least (upperOf most) p
-  total = rw (least-is, upper-is, places-is)
+  -- the inner part and the passes lay the repeat
+  passes-lay : {model may : ℕ} {t t1 t2 : List ℕ} → model ≡ innerStart least base → may ≡ optionalCount least most
+      → OneLaid bs (start + repeatHead) stop model (model + p) first p t t1 → PassesLaid model p first g least may (eqb most 65535) mode base next t1 t2
+      → Kept base (base + repeatPlaces (m .least) (m .upper) (places (m .tree))) t t2
+      × Lays t2 bs (writtenOut (repeat (m .least) (m .upper) (m .mode) (m .tree)) first) base next
+  passes-lay {model} {may} {t} {t1} {t2} at em inner r =
+      let ek : passPlaces least may p ≡ repeatPlaces (m .least) (m .upper) (places (m .tree)) = ap (λ (k : ℕ). passPlaces least k p) em ∙ sym total in
+      let e = writtenOut (m .tree) first in (
+        kept-both base (base + repeatPlaces (m .least) (m .upper) (places (m .tree))) (inner .kept) (r .kept) (omega (arith, at, inner-room))
+            (omega (arith, at, inner-room, total)) (omega arith) (omega arith),
+        subst (λ (c : Core). Lays t2 bs c base next)
+            (sym (written ∙ ap (λ (k : ℕ). passCore least (eqb most 65535) k (modeOf mode) first g e) (sym em)))
+            (r .laid bs e (places-is ∙ sym (size-written (m .tree) first)) (λ more. inner .laid (inner-ask at))),
+      )
 
-  -- the passes of a repeat with an upper end lay it
-  pub bounded-laid : {t t' : List ℕ} (not : most ≡ 65535 → ⊥)
-      → PassesLaid bs (start + repeatHead) stop least (most - least) false mode base next first g p t t'
-      → Kept base (base + repeatPlaces (m .least) (m .upper) (places (m .tree))) t t'
-      × Lays t' bs (writtenOut (repeat (m .least) (m .upper) (m .mode) (m .tree)) first) base next
-  bounded-laid {t = t} {t' = t'} not r = (
-    subst (λ (k : ℕ). Kept base (base + k) t t') (sym (total ∙ ap (λ (u : Upper). repeatPlaces least u p) (upper-bounded not))) (r .kept),
-    subst (λ (c : Core). Lays t' bs c base next)
-        (sym
-        (written ∙ ap (λ (u : Upper). musts least first g (writtenOut (m .tree) first) (optionals least u (modeOf mode) first g (writtenOut (m .tree) first))) (upper-bounded not)
-        ∙ ap (musts least first g (writtenOut (m .tree) first)) (sym (optional-maybes (most - least) (modeOf mode) first g (writtenOut (m .tree) first)))))
-        (r .laid (bounded-ask not)),
-  )
-
-  -- the passes of one without lay it
-  pub endless-laid : {t t' : List ℕ} (is : most ≡ 65535) → PassesLaid bs (start + repeatHead) stop least 1 true mode base next first g p t t'
-      → Kept base (base + repeatPlaces (m .least) (m .upper) (places (m .tree))) t t'
-      × Lays t' bs (writtenOut (repeat (m .least) (m .upper) (m .mode) (m .tree)) first) base next
-  endless-laid {t = t} {t' = t'} is r = (
-    subst (λ (k : ℕ). Kept base (base + k) t t') (sym (total ∙ ap (λ (u : Upper). repeatPlaces least u p) (upper-endless is) ∙ omega arith)) (r .kept),
-    subst (λ (c : Core). Lays t' bs c base next)
-        (sym
-        (written ∙ ap (λ (u : Upper). musts least first g (writtenOut (m .tree) first) (optionals least u (modeOf mode) first g (writtenOut (m .tree) first))) (upper-endless is)))
-        (r .laid (endless-ask is)),
-  )
+-- so they do for every tree that meets what was asked
+pub repeat-passes : {bs : List ℕ} {start stop base next first least most mode p g k model may : ℕ} {t t1 t2 : List ℕ} → least ≡ numberAt bs start
+    → most ≡ numberAt bs (start + 2) → mode ≡ numberAt bs (start + 4) → Counted bs (start + repeatHead) stop p g k → model ≡ innerStart least base
+    → may ≡ optionalCount least most → OneLaid bs (start + repeatHead) stop model (model + p) first p t t1
+    → PassesLaid model p first g least may (eqb most 65535) mode base next t1 t2 → RepeatLaid bs start stop base next first t t2
+repeat-passes el em ed c at ek inner r =
+    record { kept = λ m. passes-lay m el em ed c at ek inner r .0; laid = λ m. passes-lay m el em ed c at ek inner r .1 }
 
 -- `one` without places
 pub nothing-to-lay : {bs : List ℕ} {at stop base next first n : ℕ} {t : List ℕ} → n ≡ 0 → OneLaid bs at stop base next first n t t
@@ -273,6 +285,7 @@ repeat-ask {bs} {at} {n = n} m some ek six =
         few = omega (arith, m .inside .few);
       };
       small = omega (arith, m .small, m .places-are, repeat-more (v .least) (v .upper) (places (v .inner)) (v .numbers .right) (positive some (m .places-are ∙ e)));
+      some = λ none. some (m .places-are ∙ e ∙ none);
       room = omega (arith, m .room, m .places-are);
       follows = m .follows;
     }

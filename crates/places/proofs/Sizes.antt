@@ -7,7 +7,6 @@ use native.Mathlib.Nat.{suc-mul, zero-mul}
 use native.Mathlib.Omega.{arith}
 use Rattle.paper.specs.Pattern.{Mode, Pattern, Members, groups}
 use Rattle.paper.specs.Pattern.Members.{two, more}
-use Rattle.paper.specs.Pattern as pattern
 use Rattle.paper.specs.Machine.{Core, size, musts, maybes, writtenOut, chained, forked, chain, either, maybe}
 use Rattle.places.specs.Standing.{rowPlaces, rowCore}
 use Rattle.places.specs.Asked.{optionalCore, passCore, passPlaces}

@@ -9,8 +9,8 @@ use Rattle.paper.specs.Limits.{patternBytes, patternPlaces, rowCount, repeatCou
 use Rattle.paper.specs.Pattern.{Mode, Upper, Pattern, places, groups, repeatPlaces}
 use Rattle.paper.specs.Check.{numberAt, bodyEnd, repeatHead, upperOf, modeOf}
 use Rattle.paper.specs.Reading.{everyByte}
-use Rattle.paper.specs.Machine.{Core, skip, eats, maybe, star, musts, writtenOut, passFork}
-use Rattle.paper.specs.Tables.{placeNumbers, placeOf, setPlace}
+use Rattle.paper.specs.Machine.{Core, skip, eats, maybe, star, musts, writtenOut, passFork, size}
+use Rattle.paper.specs.Tables.{placeNumbers, placeOf, forkPlace, setPlace}
 use Rattle.places.specs.Laid.{kindOf, nextOf, aOf, nOf, Holds, Kept, Lays, entryOf}
 use Rattle.places.specs.Standing.{Stands, Row, Passes, placesIn, groupsIn, rowPlaces, rowCore}
 
@@ -171,19 +171,77 @@ passCore least endless may mode first n e = musts least first n e (optionalCore 
 abbrev pub passPlaces : ℕ → ℕ → ℕ → ℕ
 passPlaces least may p = least * (1 + p) + may * (3 + p)
 
-pub record Repeating (bs : List ℕ) (at stop least may : ℕ) (endless : Bool) (base next first g p : ℕ) : Type 0 where
-  pub tree : Pattern
-  pub inside : Inside bs at stop first tree
-  pub groups-are : g ≡ groups tree
-  pub places-are : p ≡ places tree
-  pub small : p ≤ patternPlaces
+-- `optional_passes`: how many optional passes a repeat has, from the numbers that are read
+abbrev pub optionalCount : ℕ → ℕ → ℕ
+optionalCount least most = cond (eqb most noUpperEnd) 1 (most - least)
+
+-- `inner_start`: where the inner part of the first pass starts
+abbrev pub innerStart : ℕ → ℕ → ℕ
+innerStart least base = cond (eqb least 0) (base + 2) (base + 1)
+
+-- `moved`: where a follower leads in a copy of places
+abbrev pub movedTo : ℕ → ℕ → ℕ → ℕ → ℕ → ℕ
+movedTo from count to next x = cond (ltb x from) next (cond (ltb (x - from) count) (to + (x - from)) next)
+
+-- `moved_other`: the third number of a place there
+abbrev pub movedOther : ℕ → ℕ → ℕ → ℕ → ℕ → ℕ → ℕ
+movedOther from count to next kind a = cond (eqb kind forkPlace) (movedTo from count to next a) a
+
+-- places that stand where they are wanted, or all before an index
+pub data Model (from count wanted base : ℕ) : Type 0 where
+  inPlace : from ≡ wanted → Model from count wanted base
+  ahead : from + count ≤ base → Model from count wanted base
+
+-- places that are copied: there is room, and the copy stands behind them or where they do
+pub record Moving (from count to next : ℕ) : Type 0 where
+  pub model-room : from + count ≤ mostPlaces
+  pub room : to + count ≤ mostPlaces
+  pub follows : next ≤ mostPlaces
+  pub apart : Model from count to to
+
+-- `place_copied`: the place is the copied one with its followers moved
+abbrev pub PutMoved : ℕ → ℕ → ℕ → ℕ → ℕ → List ℕ → List ℕ → Type 0
+PutMoved from count to next k before after =
+    let x = from + k in
+    Put before (to + k) (kindOf before x) (movedTo from count to next (nextOf before x)) (movedOther from count to next (kindOf before x) (aOf before x))
+    (nOf before x) after
+
+pub record PlaceMoved (from count to next j : ℕ) (before after : List ℕ) : Type 0 where
+  pub kind-is : kindOf after (to + j) ≡ kindOf before (from + j)
+  pub next-is : nextOf after (to + j) ≡ movedTo from count to next (nextOf before (from + j))
+  pub a-is : aOf after (to + j) ≡ movedOther from count to next (kindOf before (from + j)) (aOf before (from + j))
+  pub n-is : nOf after (to + j) ≡ nOf before (from + j)
+
+-- `copied`: the first `done` of the places are copied, and nothing else has changed
+pub record Copied (from count to next done : ℕ) (before after : List ℕ) : Type 0 where
+  pub kept : Kept to (to + done) before after
+  pub moved : (j : ℕ) → j < done → PlaceMoved from count to next j before after
+
+-- `begun`: a begin of a pass, and room for the pass; the inner part stands there already, or before
+pub record Begun (model p kind first g base next : ℕ) : Type 0 where
+  pub head : Head kind first g
+  pub room : base + 1 + p ≤ mostPlaces
+  pub follows : next ≤ mostPlaces
+  pub stands : Model model p (base + 1) base
+
+pub record BegunLaid (model p kind first g base next : ℕ) (before after : List ℕ) : Type 0 where
+  pub kept : Kept base (base + 1 + p) before after
+  pub head : (bs : List ℕ) → Holds after bs base (placeOf bs kind (entryOf p (base + 1) next) first g)
+  pub laid : (bs : List ℕ) (e : Core) → p ≡ size e → Lays before bs e model (model + p) → Lays after bs e (base + 1) next
+
+-- `passes`: the same of all passes; what they copy is asked for where there is a pass
+pub record Repeating (model p first g least may : ℕ) (endless : Bool) (base next : ℕ) : Type 0 where
+  pub first-small : first ≤ rowCount
+  pub groups-small : g ≤ rowCount
   pub once : endless ≡ true → may ≤ 1
   pub room : base + passPlaces least may p ≤ mostPlaces
   pub follows : next ≤ mostPlaces
+  pub stands : Model model p (innerStart least base) base
 
-pub record PassesLaid (bs : List ℕ) (at stop least may : ℕ) (endless : Bool) (mode base next first g p : ℕ) (before after : List ℕ) : Type 0 where
+pub record PassesLaid (model p first g least may : ℕ) (endless : Bool) (mode base next : ℕ) (before after : List ℕ) : Type 0 where
   pub kept : Kept base (base + passPlaces least may p) before after
-  pub laid : (m : Repeating bs at stop least may endless base next first g p) → Lays after bs (passCore least endless may (modeOf mode) first g (writtenOut (m .tree) first)) base next
+  pub laid : (bs : List ℕ) (e : Core) → p ≡ size e → ((least + may ≡ 0 → ⊥) → Lays before bs e model (model + p))
+      → Lays after bs (passCore least endless may (modeOf mode) first g e) base next
 
 -- `repeated`: a repeat's three numbers, and what it repeats
 pub record Repeat (bs : List ℕ) (start stop base next first : ℕ) : Type 0 where
@@ -194,6 +252,7 @@ pub record Repeat (bs : List ℕ) (start stop base next first : ℕ) : Type 0 wh
   pub numbers : Passes bs start least upper mode
   pub inside : Inside bs (start + repeatHead) stop first tree
   pub small : places tree ≤ patternPlaces
+  pub some : repeatPlaces least upper (places tree) ≡ 0 → ⊥
   pub room : base + repeatPlaces least upper (places tree) ≤ mostPlaces
   pub follows : next ≤ mostPlaces
 

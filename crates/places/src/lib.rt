@@ -10,7 +10,7 @@ ghost use Rattle.paper.specs.Limits.{patternBytes, rowCount};
 ghost use Rattle.paper.specs.Pattern.{repeatPlaces};
 ghost use Rattle.paper.specs.Check.{upperOf};
 ghost use Rattle.places.specs.Laid.{entryOf};
-ghost use Rattle.places.specs.Asked.{Fitting, Put, Forked, Capped, insideStart, CountsRight, ownPlaces, OwnPlaces, ownGroups, Counting, Counted, One, OneLaid, Head, HeadLaid, Several, SeveralLaid, Ends, Repeating, PassesLaid, Repeat, RepeatLaid, Star, StarLaid, tableRoom, mostCounted, mostOwn};
+ghost use Rattle.places.specs.Asked.{Fitting, Put, Forked, Capped, insideStart, CountsRight, ownPlaces, OwnPlaces, ownGroups, Counting, Counted, One, OneLaid, Head, HeadLaid, Several, SeveralLaid, Ends, optionalCount, innerStart, movedTo, movedOther, Moving, PutMoved, Copied, Begun, BegunLaid, Repeating, PassesLaid, Repeat, RepeatLaid, Star, StarLaid, tableRoom, mostPlaces, mostNumber, mostCounted, mostOwn};
 ghost use Rattle.places.specs.Built.{Accepted, BuiltMatch, BuiltSearch};
 
 // The numbers of the kinds of place.
@@ -184,6 +184,152 @@ fn pass_end(endless: bool, may: usize, base: usize, after: usize, next: usize) -
     }
 }
 
+// How many optional passes a repeat has: without an upper end one, whose end leads back.
+fn optional_passes(least: usize, most: usize) -> usize
+    requires { ⌜ CountsRight least most ⌝ }
+    ensures { λ r. ⌜ r ≡ optionalCount least most ⌝ }
+{
+    if most == Pattern::NO_UPPER_END {
+        1
+    } else {
+        most - least
+    }
+}
+
+// Where the inner part of the first of some passes starts: behind its begin, which has a fork before it where the pass is optional.
+fn inner_start(must: usize, base: usize) -> usize
+    requires { ⌜ base ≤ mostPlaces ⌝ }
+    ensures { λ r. ⌜ r ≡ innerStart must base ⌝ }
+{
+    if must == 0 { base + 2 } else { base + 1 }
+}
+
+// Places to be copied: where they stand, how many they are, where the copy stands and what follows it.
+struct Shift {
+    from: usize,
+    count: usize,
+    to: usize,
+    next: usize,
+}
+
+// Where a follower leads in the copy: one of the copied places to its copy, any other to what follows the copy.
+fn moved(shift: Shift, x: usize) -> usize
+    requires { ⌜ Moving (shift .from) (shift .count) (shift .to) (shift .next) ⌝ }
+    ensures { λ r. ⌜ (r ≡ movedTo (shift .from) (shift .count) (shift .to) (shift .next) x) × (r ≤ mostPlaces) ⌝ }
+{
+    if x < shift.from {
+        return shift.next;
+    }
+    let inside = x - shift.from;
+    if inside < shift.count {
+        shift.to + inside
+    } else {
+        shift.next
+    }
+}
+
+// The third number of a place in the copy: a fork's is its other follower.
+fn moved_other(shift: Shift, kind: u16, a: usize) -> usize
+    requires { ⌜ Moving (shift .from) (shift .count) (shift .to) (shift .next) ⌝ }
+    requires { ⌜ a ≤ mostNumber ⌝ }
+    ensures { λ r. ⌜ (r ≡ movedOther (shift .from) (shift .count) (shift .to) (shift .next) kind a) × (r ≤ mostNumber) ⌝ }
+{
+    if kind == FORK { moved(shift, a) } else { a }
+}
+
+// A number of a place.
+fn number(x: u16) -> usize
+    ensures { λ r. ⌜ (r ≡ x) × (r ≤ mostNumber) ⌝ }
+{
+    x as usize
+}
+
+// Copies one of the places, its followers moved.
+fn place_copied(table: &mut [u16], shift: Shift, k: usize)
+    requires { ⌜ Moving (shift .from) (shift .count) (shift .to) (shift .next) ⌝ }
+    requires { ⌜ k < shift .count ⌝ }
+    requires { ⌜ tableRoom ≤ length (now table) ⌝ }
+    ensures { λ _. ⌜ PutMoved (shift .from) (shift .count) (shift .to) (shift .next) k (now (table .entry)) (now (table .exit)) ⌝ }
+{
+    let b = 4 * (shift.from + k);
+    let kind = table[b];
+    let next = moved(shift, number(table[b + 1]));
+    let a = moved_other(shift, kind, number(table[b + 2]));
+    let n = number(table[b + 3]);
+    put(table, shift.to + k, kind, next, a, n);
+}
+
+// Copies places, their followers moved. The copy may stand where they do: then only what follows them changes.
+fn copied(table: &mut [u16], shift: Shift)
+    requires { ⌜ Moving (shift .from) (shift .count) (shift .to) (shift .next) ⌝ }
+    requires { ⌜ tableRoom ≤ length (now table) ⌝ }
+    ensures { λ _. ⌜ Copied (shift .from) (shift .count) (shift .to) (shift .next) (shift .count) (now (table .entry)) (now (table .exit)) ⌝ }
+{
+    let mut k = 0;
+    while k < shift.count {
+        place_copied(table, shift, k);
+        k += 1;
+    }
+}
+
+// How the passes of a repeat are made: where the inner part that they copy stands, its places, its first group and how many groups each pass clears,
+// whether there is no upper end, and the mode.
+struct Pass {
+    model: usize,
+    places: usize,
+    first: usize,
+    groups: usize,
+    endless: bool,
+    mode: usize,
+}
+
+// A begin of a pass, and the inner part behind it.
+fn begun(table: &mut [u16], pass: Pass, kind: u16, base: usize, next: usize)
+    requires { ⌜ Begun (pass .model) (pass .places) kind (pass .first) (pass .groups) base next ⌝ }
+    requires { ⌜ tableRoom ≤ length (now table) ⌝ }
+    ensures { λ _. ⌜ BegunLaid (pass .model) (pass .places) kind (pass .first) (pass .groups) base next (now (table .entry)) (now (table .exit)) ⌝ }
+{
+    let places = pass.places;
+    let inside = base + 1;
+    put(
+        table,
+        base,
+        kind,
+        entered(places, inside, next),
+        pass.first,
+        pass.groups,
+    );
+    let shift = Shift {
+        from: pass.model,
+        count: places,
+        to: inside,
+        next,
+    };
+    copied(table, shift);
+}
+
+// The passes of a repeat: those that must be made, then the optional ones; without an upper end there is one of these, whose end leads back.
+fn passes(table: &mut [u16], pass: Pass, must: usize, may: usize, base: usize, next: usize)
+    requires { ⌜ Repeating (pass .model) (pass .places) (pass .first) (pass .groups) must may (pass .endless) base next ⌝ }
+    requires { ⌜ tableRoom ≤ length (now table) ⌝ }
+    ensures { λ _. ⌜ PassesLaid (pass .model) (pass .places) (pass .first) (pass .groups) must may (pass .endless) (pass .mode) base next (now (table .entry)) (now (table .exit)) ⌝ }
+{
+    if must != 0 {
+        let after = base + 1 + pass.places;
+        let out = entered(must - 1 + may, after, next);
+        begun(table, pass, BEGIN, base, out);
+        passes(table, pass, must - 1, may, after, next);
+    } else if may != 0 {
+        let begin = base + 1;
+        let end = begin + 1 + pass.places;
+        let out = pass_end(pass.endless, may, base, end + 1, next);
+        pass_fork(table, base, pass.mode, begin, next);
+        begun(table, pass, BEGIN_OPTIONAL, begin, end);
+        put(table, end, END, out, 0, 0);
+        passes(table, pass, 0, may - 1, end + 1, next);
+    }
+}
+
 // Records that are laid: where they stand and end, the number of their first group, and how many places they have.
 struct Part {
     at: usize,
@@ -215,56 +361,7 @@ fn headed(
     }
 }
 
-// How the passes of a repeat are made: the groups that each clears, whether there is no upper end, and the mode.
-struct Pass {
-    groups: usize,
-    endless: bool,
-    mode: usize,
-}
-
-// The passes of a repeat: those that must be made, then the optional ones; without an upper end there is one of these, whose end leads back.
-fn passes(
-    pattern: &[u8],
-    table: &mut [u16],
-    part: Part,
-    pass: Pass,
-    must: usize,
-    may: usize,
-    base: usize,
-    next: usize,
-)
-    requires { ⌜ Repeating (now pattern) (part .at) (part .stop) must may (pass .endless) base next (part .first) (pass .groups) (part .places) ⌝ }
-    requires { ⌜ tableRoom ≤ length (now table) ⌝ }
-    ensures { λ _. ⌜ PassesLaid (now (pattern .entry)) (part .at) (part .stop) must may (pass .endless) (pass .mode) base next (part .first) (pass .groups) (part .places) (now (table .entry)) (now (table .exit)) ⌝ }
-{
-    let first = part.first;
-    let groups = pass.groups;
-    if must != 0 {
-        let after = base + 1 + part.places;
-        let out = entered(must - 1 + may, after, next);
-        headed(pattern, table, part, BEGIN, first, groups, base, out);
-        passes(pattern, table, part, pass, must - 1, may, after, next);
-    } else if may != 0 {
-        let begin = base + 1;
-        let end = begin + 1 + part.places;
-        let out = pass_end(pass.endless, may, base, end + 1, next);
-        pass_fork(table, base, pass.mode, begin, next);
-        headed(
-            pattern,
-            table,
-            part,
-            BEGIN_OPTIONAL,
-            first,
-            groups,
-            begin,
-            end,
-        );
-        put(table, end, END, out, 0, 0);
-        passes(pattern, table, part, pass, 0, may - 1, end + 1, next);
-    }
-}
-
-// The places of one repeat.
+// The places of one repeat: the inner part of its first pass, and the passes around it and its copies.
 fn repeated(
     pattern: &[u8],
     table: &mut [u16],
@@ -284,28 +381,23 @@ fn repeated(
     let mode = number_at(pattern, start + 4);
     let inside = count(pattern, at, stop);
     let places = inside.places;
-    let groups = inside.groups;
+    let model = inner_start(least, base);
     let part = Part {
         at,
         stop,
         first,
         places,
     };
-    if most == Pattern::NO_UPPER_END {
-        let pass = Pass {
-            groups,
-            endless: true,
-            mode,
-        };
-        passes(pattern, table, part, pass, least, 1, base, next);
-    } else {
-        let pass = Pass {
-            groups,
-            endless: false,
-            mode,
-        };
-        passes(pattern, table, part, pass, least, most - least, base, next);
-    }
+    let pass = Pass {
+        model,
+        places,
+        first,
+        groups: inside.groups,
+        endless: most == Pattern::NO_UPPER_END,
+        mode,
+    };
+    one(pattern, table, part, model, model + places);
+    passes(table, pass, least, optional_passes(least, most), base, next);
 }
 
 // The places of one record.

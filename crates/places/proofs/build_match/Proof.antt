@@ -1,6 +1,4 @@
 -- `build_match`: the pattern is one record, laid from 0 on, and the accepting place follows.
-use mathlib.Core.Path.{_≡_, _∙_}
-use Prim.Native.Nat.{_+_}
 use native.Mathlib.Omega.{arith}
 use Rattle.places.proofs.Walked.{pattern-stands}
 use Rattle.places.proofs.Finished.{whole-counting, whole-places, whole-one, match-built}

@@ -1,5 +1,5 @@
 -- `build_search`: the wrap's places stand around the pattern's, in their order.
-use mathlib.Core.Path.{_≡_, _∙_}
+use mathlib.Core.Path.{_∙_}
 use Prim.Native.Nat.{_+_}
 use native.Mathlib.Omega.{arith}
 use Rattle.places.proofs.Walked.{pattern-stands}

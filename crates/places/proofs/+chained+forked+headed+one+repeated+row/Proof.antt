@@ -1,64 +1,59 @@
 -- The cycle of building: `row` calls `one` for each record, `one` what its kind needs, and those `row` again on the records inside.
--- The bytes between the two offsets fall, and passes over the same bytes fall in number.
+-- The bytes between the two offsets fall.
 use borrow.Author.Needs.{needs}
 use Prim.Native.Nat.{ℕ, _+_, _-_, _*_, _<_}
 use mathlib.Core.Path.{ap, _∙_}
 use native.Mathlib.Omega.{arith}
-use Rattle.places.proofs.Entering.{entry-small, end-small, places-must, places-may, passes-count, at-least-one}
-use Rattle.places.proofs.Building.{single, head-fits, head-row, head-alone, pass-head, must-one, must-rest, must-laid, may-one, may-rest, may-laid, none-laid}
-use Rattle.places.proofs.Records.{repeat-counting, endless-ask, bounded-counts, bounded-ask, endless-laid, bounded-laid, nothing-to-lay, stop-laid, set-laid, group-one, group-two, group-laid, repeat-ask, repeat-laid, row-ask, row-laid, row-header, last-one, last-laid, more-counting, more-few, fork-sum, fork-one, fork-rest, fork-laid, chain-sum, chain-one, chain-rest, chain-laid}
+use Rattle.places.proofs.Entering.{entry-small, at-least-one}
+use Rattle.places.proofs.Building.{single, head-fits, head-row, head-alone}
+use Rattle.places.proofs.Records.{repeat-counting, counts-right, inner-ask, passes-ask, repeat-passes, nothing-to-lay, stop-laid, set-laid, group-one, group-two, group-laid, repeat-ask, repeat-laid, row-ask, row-laid, row-header, last-one, last-laid, more-counting, more-few, fork-sum, fork-one, fork-rest, fork-laid, chain-sum, chain-one, chain-rest, chain-laid}
 use borrow.Fn.Kinds.{In}
 use borrow.Fn.PlainCycle.{Measures, is, falls, and}
 use Rattle.places.proofs.chained.Reads as chained
 use Rattle.places.proofs.chained.Kinds as chained-kinds
-use Rattle.places.proofs.+chained+forked+headed+one+passes+repeated+row.Lts-chained as chained-lts
+use Rattle.places.proofs.+chained+forked+headed+one+repeated+row.Lts-chained as chained-lts
 use Rattle.places.proofs.forked.Reads as forked
 use Rattle.places.proofs.forked.Kinds as forked-kinds
-use Rattle.places.proofs.+chained+forked+headed+one+passes+repeated+row.Lts-forked as forked-lts
+use Rattle.places.proofs.+chained+forked+headed+one+repeated+row.Lts-forked as forked-lts
 use Rattle.places.proofs.headed.Reads as headed
 use Rattle.places.proofs.headed.Kinds as headed-kinds
-use Rattle.places.proofs.+chained+forked+headed+one+passes+repeated+row.Lts-headed as headed-lts
+use Rattle.places.proofs.+chained+forked+headed+one+repeated+row.Lts-headed as headed-lts
 use Rattle.places.proofs.one.Reads as one
 use Rattle.places.proofs.one.Kinds as one-kinds
-use Rattle.places.proofs.+chained+forked+headed+one+passes+repeated+row.Lts-one as one-lts
-use Rattle.places.proofs.passes.Reads as passes
-use Rattle.places.proofs.passes.Kinds as passes-kinds
-use Rattle.places.proofs.+chained+forked+headed+one+passes+repeated+row.Lts-passes as passes-lts
+use Rattle.places.proofs.+chained+forked+headed+one+repeated+row.Lts-one as one-lts
 use Rattle.places.proofs.repeated.Reads as repeated
 use Rattle.places.proofs.repeated.Kinds as repeated-kinds
-use Rattle.places.proofs.+chained+forked+headed+one+passes+repeated+row.Lts-repeated as repeated-lts
+use Rattle.places.proofs.+chained+forked+headed+one+repeated+row.Lts-repeated as repeated-lts
 use Rattle.places.proofs.row.Reads as row
 use Rattle.places.proofs.row.Kinds as row-kinds
-use Rattle.places.proofs.+chained+forked+headed+one+passes+repeated+row.Lts-row as row-lts
+use Rattle.places.proofs.+chained+forked+headed+one+repeated+row.Lts-row as row-lts
 use Rattle.places.proofs.count.Reads as count-reads
 use Rattle.places.proofs.entered.Reads as entered-reads
-use Rattle.places.proofs.pass_end.Reads as pass-end-reads
-use Rattle.places.proofs.pass_fork.Reads as pass-fork-reads
+use Rattle.places.proofs.inner_start.Reads as inner-start-reads
+use Rattle.places.proofs.optional_passes.Reads as optional-passes-reads
+use Rattle.places.proofs.passes.Reads as passes-reads
 use Rattle.places.proofs.put.Reads as put-reads
 use Rattle.records.proofs.number_at.Reads as number-at-reads
-use Rattle.places.proofs.+chained+forked+headed+one+passes+repeated+row.{statement}
-use Rattle.places.proofs.+chained+forked+headed+one+passes+repeated+row.Tie.{close}
+use Rattle.places.proofs.+chained+forked+headed+one+repeated+row.{statement}
+use Rattle.places.proofs.+chained+forked+headed+one+repeated+row.Tie.{close}
 
 abbrev μ-chained : Measures 2 chained-kinds.ps ℕ
-μ-chained κs a = 1024 * (a .1 .1 .0 .stop - a .1 .1 .0 .at) + 1
+μ-chained κs a = 4 * (a .1 .1 .0 .stop - a .1 .1 .0 .at) + 1
 
 abbrev μ-forked : Measures 2 forked-kinds.ps ℕ
-μ-forked κs a = 1024 * (a .1 .1 .0 .stop - a .1 .1 .0 .at) + 1
+μ-forked κs a = 4 * (a .1 .1 .0 .stop - a .1 .1 .0 .at) + 1
 
 abbrev μ-headed : Measures 2 headed-kinds.ps ℕ
-μ-headed κs a = 1024 * (a .1 .1 .0 .stop - a .1 .1 .0 .at) + 3
+μ-headed κs a = 4 * (a .1 .1 .0 .stop - a .1 .1 .0 .at) + 3
 
 abbrev μ-one : Measures 2 one-kinds.ps ℕ
-μ-one κs a = 1024 * (a .1 .1 .0 .stop - a .1 .1 .0 .at)
-
-abbrev μ-passes : Measures 2 passes-kinds.ps ℕ
-μ-passes κs a = 1024 * (a .1 .1 .0 .stop - a .1 .1 .0 .at) + 4 + a .1 .1 .1 .1 .0 + a .1 .1 .1 .1 .1 .0
+μ-one κs a = 4 * (a .1 .1 .0 .stop - a .1 .1 .0 .at)
 
 abbrev μ-repeated : Measures 2 repeated-kinds.ps ℕ
-μ-repeated κs a = 1024 * (a .1 .1 .1 .0 - a .1 .1 .0) + 1000
+μ-repeated κs a = 4 * (a .1 .1 .1 .0 - a .1 .1 .0)
 
 abbrev μ-row : Measures 2 row-kinds.ps ℕ
-μ-row κs a = 1024 * (a .1 .1 .0 .stop - a .1 .1 .0 .at) + 2
+μ-row κs a = 4 * (a .1 .1 .0 .stop - a .1 .1 .0 .at) + 2
 
 abbrev chained-at : ℕ → In 2 chained-kinds.ps
 chained-at t = and 2 chained-kinds.ps (is 2 chained-kinds.ps μ-chained t) chained.Pre
@@ -83,12 +78,6 @@ one-at t = and 2 one-kinds.ps (is 2 one-kinds.ps μ-one t) one.Pre
 
 abbrev one-below : ℕ → In 2 one-kinds.ps
 one-below t = and 2 one-kinds.ps (falls 2 one-kinds.ps _<_ μ-one t) one.Pre
-
-abbrev passes-at : ℕ → In 2 passes-kinds.ps
-passes-at t = and 2 passes-kinds.ps (is 2 passes-kinds.ps μ-passes t) passes.Pre
-
-abbrev passes-below : ℕ → In 2 passes-kinds.ps
-passes-below t = and 2 passes-kinds.ps (falls 2 passes-kinds.ps _<_ μ-passes t) passes.Pre
 
 abbrev repeated-at : ℕ → In 2 repeated-kinds.ps
 repeated-at t = and 2 repeated-kinds.ps (is 2 repeated-kinds.ps μ-repeated t) repeated.Pre
@@ -495,187 +484,8 @@ one-returns-6 t c =
     let the-row = c .before .before .row in
     row-laid (the-if1 .left) (the-number-at .ensures .0) (the-if2 .left) (the-if3 .left) (the-if4 .left) (the-if5 .left) (the-row .ensures)
 
-abbrev passes-calls : ℕ → passes-lts.Claims
-passes-calls t = (entered-reads.Asked, entered-reads.Learnt, headed-below t, headed.Post, passes-below t, passes.Post, pass-end-reads.Asked, pass-end-reads.Learnt, pass-fork-reads.Asked, pass-fork-reads.Learnt, put-reads.Asked, put-reads.Learnt)
-
-passes-add-after : (t : ℕ) → passes-lts.Need-add-after (passes-calls t) (passes-at t) passes.Post
-passes-add-after t c =
-    let the-pre = c .before .before .before .pre in
-    let the-args = c .before .before .before .args in
-    let the-if1 = c .if1 in
-    omega (arith, (the-pre .1 .0) .room, places-must (the-args .must) (the-args .may) (the-args .part .places) (the-if1 .taken))
-
-passes-add-after-2 : (t : ℕ) → passes-lts.Need-add-after-2 (passes-calls t) (passes-at t) passes.Post
-passes-add-after-2 t c =
-    let the-pre = c .before .before .before .before .pre in
-    let the-args = c .before .before .before .before .args in
-    let the-if1 = c .before .if1 in
-    omega (arith, (the-pre .1 .0) .room, places-must (the-args .must) (the-args .may) (the-args .part .places) (the-if1 .taken))
-
-passes-sub-entered : (t : ℕ) → passes-lts.Need-sub-entered (passes-calls t) (passes-at t) passes.Post
-passes-sub-entered t c =
-    let the-if1 = c .before .if1 in
-    at-least-one (the-if1 .taken)
-
-passes-add-entered : (t : ℕ) → passes-lts.Need-add-entered (passes-calls t) (passes-at t) passes.Post
-passes-add-entered t c =
-    let the-pre = c .before .before .before .before .pre in
-    let the-args = c .before .before .before .before .args in
-    let the-if1 = c .before .if1 in
-    omega (arith, (the-pre .1 .0) .room, passes-count (the-args .must) (the-args .may) (the-args .part .places), at-least-one (the-if1 .taken))
-
-passes-entered-requires : (t : ℕ) → passes-lts.Need-entered-requires (passes-calls t) (passes-at t) passes.Post
-passes-entered-requires t c κs = search needs
-
-passes-headed-requires : (t : ℕ) → passes-lts.Need-headed-requires (passes-calls t) (passes-at t) passes.Post
-passes-headed-requires t c κs =
-    let the-pre = c .before .before .before .before .before .before .pre in
-    let the-entered = c .before .entered in
-    let the-if1 = c .before .before .before .if1 in
-    (omega (arith, the-pre .0), (must-one (the-entered .result) (the-pre .1 .0) (the-if1 .taken) (the-entered .ensures), (pass-head 3 (the-pre .1 .0) (omega arith), the-pre .1 .1)))
-
-passes-sub-passes : (t : ℕ) → passes-lts.Need-sub-passes (passes-calls t) (passes-at t) passes.Post
-passes-sub-passes t c =
-    let the-if1 = c .before .before .before .before .before .before .before .if1 in
-    at-least-one (the-if1 .taken)
-
-passes-passes-requires : (t : ℕ) → passes-lts.Need-passes-requires (passes-calls t) (passes-at t) passes.Post
-passes-passes-requires t c κs =
-    let the-pre = c .before .before .before .before .before .before .before .before .before .before .pre in
-    let the-if1 = c .before .before .before .before .before .before .before .if1 in
-    let the-headed = c .before .before .before .headed in
-    (omega (arith, the-pre .0, at-least-one (the-if1 .taken)), (must-rest (the-pre .1 .0) (the-if1 .taken), omega (arith, the-headed .ensures .kept .same-length, the-pre .1 .1)))
-
-passes-add-begin : (t : ℕ) → passes-lts.Need-add-begin (passes-calls t) (passes-at t) passes.Post
-passes-add-begin t c =
-    let the-pre = c .before .before .before .before .pre in
-    let the-args = c .before .before .before .before .args in
-    let the-if1 = c .before .if1 in
-    let the-if2 = c .if2 in
-    omega (arith, (the-pre .1 .0) .room, places-may (the-args .must) (the-args .may) (the-args .part .places) (the-if1 .left) (the-if2 .taken))
-
-passes-add-end : (t : ℕ) → passes-lts.Need-add-end (passes-calls t) (passes-at t) passes.Post
-passes-add-end t c =
-    let the-pre = c .before .before .before .before .pre in
-    let the-args = c .before .before .before .before .args in
-    let the-if1 = c .before .if1 in
-    let the-if2 = c .if2 in
-    omega (arith, (the-pre .1 .0) .room, places-may (the-args .must) (the-args .may) (the-args .part .places) (the-if1 .left) (the-if2 .taken))
-
-passes-add-end-2 : (t : ℕ) → passes-lts.Need-add-end-2 (passes-calls t) (passes-at t) passes.Post
-passes-add-end-2 t c =
-    let the-pre = c .before .before .before .before .before .pre in
-    let the-args = c .before .before .before .before .before .args in
-    let the-if1 = c .before .before .if1 in
-    let the-if2 = c .before .if2 in
-    omega (arith, (the-pre .1 .0) .room, places-may (the-args .must) (the-args .may) (the-args .part .places) (the-if1 .left) (the-if2 .taken))
-
-passes-add-pass-end : (t : ℕ) → passes-lts.Need-add-pass-end (passes-calls t) (passes-at t) passes.Post
-passes-add-pass-end t c =
-    let the-pre = c .before .before .before .before .before .pre in
-    let the-args = c .before .before .before .before .before .args in
-    let the-if1 = c .before .before .if1 in
-    let the-if2 = c .before .if2 in
-    omega (arith, (the-pre .1 .0) .room, places-may (the-args .must) (the-args .may) (the-args .part .places) (the-if1 .left) (the-if2 .taken))
-
-passes-pass-end-requires : (t : ℕ) → passes-lts.Need-pass-end-requires (passes-calls t) (passes-at t) passes.Post
-passes-pass-end-requires t c κs =
-    let the-if2 = c .before .if2 in
-    at-least-one (the-if2 .taken)
-
-passes-pass-fork-requires : (t : ℕ) → passes-lts.Need-pass-fork-requires (passes-calls t) (passes-at t) passes.Post
-passes-pass-fork-requires t c κs =
-    let the-pre = c .before .before .before .before .before .before .before .pre in
-    let the-args = c .before .before .before .before .before .before .before .args in
-    let the-if1 = c .before .before .before .before .if1 in
-    let the-if2 = c .before .before .before .if2 in
-    record { room = omega (arith, the-pre .1 .1, (the-pre .1 .0) .room, places-may (the-args .must) (the-args .may) (the-args .part .places) (the-if1 .left) (the-if2 .taken)); next-fits = omega (arith, (the-pre .1 .0) .room, places-may (the-args .must) (the-args .may) (the-args .part .places) (the-if1 .left) (the-if2 .taken)); a-fits = omega (arith, (the-pre .1 .0) .follows); n-fits = omega arith }
-
-passes-headed-requires-2 : (t : ℕ) → passes-lts.Need-headed-requires-2 (passes-calls t) (passes-at t) passes.Post
-passes-headed-requires-2 t c κs =
-    let the-pre = c .before .before .before .before .before .before .before .before .before .before .before .pre in
-    let the-if2 = c .before .before .before .before .before .before .before .if2 in
-    let the-if1 = c .before .before .before .before .before .before .before .before .if1 in
-    let the-pass-fork = c .before .before .before .pass-fork in
-    (omega (arith, the-pre .0, at-least-one (the-if2 .taken)), (may-one (the-pre .1 .0) (the-if1 .left) (the-if2 .taken), (pass-head 4 (the-pre .1 .0) (omega arith), omega (arith, the-pass-fork .ensures .kept .same-length, the-pre .1 .1))))
-
-passes-put-requires : (t : ℕ) → passes-lts.Need-put-requires (passes-calls t) (passes-at t) passes.Post
-passes-put-requires t c κs =
-    let the-pre = c .before .before .before .before .before .before .before .before .before .before .before .before .before .before .before .pre in
-    let the-args = c .before .before .before .before .before .before .before .before .before .before .before .before .before .before .before .args in
-    let the-if1 = c .before .before .before .before .before .before .before .before .before .before .before .before .if1 in
-    let the-if2 = c .before .before .before .before .before .before .before .before .before .before .before .if2 in
-    let the-pass-fork = c .before .before .before .before .before .before .before .pass-fork in
-    let the-headed2 = c .before .before .before .headed2 in
-    let the-pass-end = c .before .before .before .before .before .before .before .before .before .pass-end in
-    record { room = omega (arith, the-pre .1 .1, (the-pre .1 .0) .room, places-may (the-args .must) (the-args .may) (the-args .part .places) (the-if1 .left) (the-if2 .taken), the-pass-fork .ensures .kept .same-length, the-headed2 .ensures .kept .same-length); next-fits = omega (arith, the-pass-end .ensures, end-small (the-args .pass .endless) (the-args .may - 1) (the-args .base) (the-args .base + 1 + 1 + the-args .part .places + 1) (the-args .next) {most = 65535} (omega (arith, (the-pre .1 .0) .room, places-may (the-args .must) (the-args .may) (the-args .part .places) (the-if1 .left) (the-if2 .taken))) (omega (arith, (the-pre .1 .0) .room, places-may (the-args .must) (the-args .may) (the-args .part .places) (the-if1 .left) (the-if2 .taken))) (omega (arith, (the-pre .1 .0) .follows))); a-fits = omega arith; n-fits = omega arith }
-
-passes-sub-passes-2 : (t : ℕ) → passes-lts.Need-sub-passes-2 (passes-calls t) (passes-at t) passes.Post
-passes-sub-passes-2 t c =
-    let the-if2 = c .before .before .before .before .before .before .before .before .before .before .before .before .before .before .before .if2 in
-    at-least-one (the-if2 .taken)
-
-passes-add-passes : (t : ℕ) → passes-lts.Need-add-passes (passes-calls t) (passes-at t) passes.Post
-passes-add-passes t c =
-    let the-pre = c .before .before .before .before .before .before .before .before .before .before .before .before .before .before .before .before .before .before .before .pre in
-    let the-args = c .before .before .before .before .before .before .before .before .before .before .before .before .before .before .before .before .before .before .before .args in
-    let the-if1 = c .before .before .before .before .before .before .before .before .before .before .before .before .before .before .before .before .if1 in
-    let the-if2 = c .before .before .before .before .before .before .before .before .before .before .before .before .before .before .before .if2 in
-    omega (arith, (the-pre .1 .0) .room, places-may (the-args .must) (the-args .may) (the-args .part .places) (the-if1 .left) (the-if2 .taken))
-
-passes-passes-requires-2 : (t : ℕ) → passes-lts.Need-passes-requires-2 (passes-calls t) (passes-at t) passes.Post
-passes-passes-requires-2 t c κs =
-    let the-pre = c .before .before .before .before .before .before .before .before .before .before .before .before .before .before .before .before .before .before .before .pre in
-    let the-if2 = c .before .before .before .before .before .before .before .before .before .before .before .before .before .before .before .if2 in
-    let the-if1 = c .before .before .before .before .before .before .before .before .before .before .before .before .before .before .before .before .if1 in
-    let the-put = c .before .before .before .put in
-    let the-headed2 = c .before .before .before .before .before .before .before .headed2 in
-    let the-pass-fork = c .before .before .before .before .before .before .before .before .before .before .before .pass-fork in
-    (omega (arith, the-pre .0, at-least-one (the-if2 .taken)), (may-rest (the-pre .1 .0) (the-if1 .left) (the-if2 .taken), omega (arith, the-put .ensures .kept .same-length, the-headed2 .ensures .kept .same-length, the-pass-fork .ensures .kept .same-length, the-pre .1 .1)))
-
-passes-same-length : (t : ℕ) → passes-lts.Need-same-length (passes-calls t) (passes-at t) passes.Post
-passes-same-length t c =
-    let the-passes = c .before .before .passes in
-    let the-headed = c .before .before .before .before .before .before .headed in
-    the-passes .ensures .kept .same-length ∙ the-headed .ensures .kept .same-length
-
-passes-returns : (t : ℕ) → passes-lts.Need-returns (passes-calls t) (passes-at t) passes.Post
-passes-returns t c =
-    let the-if1 = c .before .before .before .before .before .before .before .before .before .before .if1 in
-    let the-entered = c .before .before .before .before .before .before .before .before .entered in
-    let the-headed = c .before .before .before .before .before .before .headed in
-    let the-passes = c .before .before .passes in
-    must-laid (the-if1 .taken) (the-entered .ensures) (the-headed .ensures) (the-passes .ensures)
-
-passes-same-length-2 : (t : ℕ) → passes-lts.Need-same-length-2 (passes-calls t) (passes-at t) passes.Post
-passes-same-length-2 t c =
-    let the-passes2 = c .before .before .passes2 in
-    let the-put = c .before .before .before .before .before .before .put in
-    let the-headed2 = c .before .before .before .before .before .before .before .before .before .before .headed2 in
-    let the-pass-fork = c .before .before .before .before .before .before .before .before .before .before .before .before .before .before .pass-fork in
-    the-passes2 .ensures .kept .same-length ∙ the-put .ensures .kept .same-length ∙ the-headed2 .ensures .kept .same-length ∙ the-pass-fork .ensures .kept .same-length
-
-passes-returns-2 : (t : ℕ) → passes-lts.Need-returns-2 (passes-calls t) (passes-at t) passes.Post
-passes-returns-2 t c =
-    let the-if1 = c .before .before .before .before .before .before .before .before .before .before .before .before .before .before .before .before .before .before .before .if1 in
-    let the-if2 = c .before .before .before .before .before .before .before .before .before .before .before .before .before .before .before .before .before .before .if2 in
-    let the-pass-fork = c .before .before .before .before .before .before .before .before .before .before .before .before .before .before .pass-fork in
-    let the-headed2 = c .before .before .before .before .before .before .before .before .before .before .headed2 in
-    let the-put = c .before .before .before .before .before .before .put in
-    let the-args = c .before .before .before .before .before .before .before .before .before .before .before .before .before .before .before .before .before .before .before .before .before .before .args in
-    let the-pass-end = c .before .before .before .before .before .before .before .before .before .before .before .before .before .before .before .before .pass-end in
-    let the-passes2 = c .before .before .passes2 in
-    may-laid (the-if1 .left) (the-if2 .taken) (the-pass-fork .ensures) (the-headed2 .ensures) (the-put .ensures) (the-args .pass .endless) (the-pass-end .ensures) (the-passes2 .ensures)
-
-passes-returns-3 : (t : ℕ) → passes-lts.Need-returns-3 (passes-calls t) (passes-at t) passes.Post
-passes-returns-3 t c =
-    let the-args = c .before .before .before .before .args in
-    let the-if1 = c .before .if1 in
-    let the-if2 = c .if2 in
-    none-laid (the-args .pass .endless) (the-if1 .left) (the-if2 .left)
-
 abbrev repeated-calls : ℕ → repeated-lts.Claims
-repeated-calls t = (number-at-reads.Asked, number-at-reads.Learnt, count-reads.Asked, count-reads.Learnt, passes-below t, passes.Post)
+repeated-calls t = (number-at-reads.Asked, number-at-reads.Learnt, count-reads.Asked, count-reads.Learnt, inner-start-reads.Asked, inner-start-reads.Learnt, one-below t, one.Post, optional-passes-reads.Asked, optional-passes-reads.Learnt, passes-reads.Asked, passes-reads.Learnt)
 
 repeated-add-at : (t : ℕ) → repeated-lts.Need-add-at (repeated-calls t) (repeated-at t) repeated.Post
 repeated-add-at t c =
@@ -712,65 +522,69 @@ repeated-count-requires t c κs =
     let the-pre = c .before .before .before .before .before .pre in
     repeat-counting (the-pre .1 .0)
 
+repeated-inner-start-requires : (t : ℕ) → repeated-lts.Need-inner-start-requires (repeated-calls t) (repeated-at t) repeated.Post
+repeated-inner-start-requires t c κs =
+    let the-pre = c .before .before .before .before .before .before .pre in
+    omega (arith, the-pre .1 .0 .room)
+
+repeated-add-one : (t : ℕ) → repeated-lts.Need-add-one (repeated-calls t) (repeated-at t) repeated.Post
+repeated-add-one t c =
+    let the-pre = c .before .before .before .before .before .before .before .before .pre in
+    let the-number-at = c .before .before .before .before .before .number-at in
+    let the-number-at2 = c .before .before .before .before .number-at2 in
+    let the-number-at3 = c .before .before .before .number-at3 in
+    let the-count = c .before .before .count in
+    let the-inner-start = c .before .inner-start in
+    omega (arith, inner-ask (the-pre .1 .0) (the-number-at .ensures .0) (the-number-at2 .ensures .0) (the-number-at3 .ensures .0) (the-count .ensures) (the-inner-start .ensures) .room)
+
+repeated-one-requires : (t : ℕ) → repeated-lts.Need-one-requires (repeated-calls t) (repeated-at t) repeated.Post
+repeated-one-requires t c κs =
+    let the-pre = c .before .before .before .before .before .before .before .before .pre in
+    let the-number-at = c .before .before .before .before .before .number-at in
+    let the-number-at2 = c .before .before .before .before .number-at2 in
+    let the-number-at3 = c .before .before .before .number-at3 in
+    let the-count = c .before .before .count in
+    let the-inner-start = c .before .inner-start in
+    (omega (arith, the-pre .0, the-pre .1 .0 .inside .end-is), (inner-ask (the-pre .1 .0) (the-number-at .ensures .0) (the-number-at2 .ensures .0) (the-number-at3 .ensures .0) (the-count .ensures) (the-inner-start .ensures), the-pre .1 .1))
+
+repeated-optional-passes-requires : (t : ℕ) → repeated-lts.Need-optional-passes-requires (repeated-calls t) (repeated-at t) repeated.Post
+repeated-optional-passes-requires t c κs =
+    let the-pre = c .before .before .before .before .before .before .before .before .before .before .before .before .pre in
+    let the-number-at = c .before .before .before .before .before .before .before .before .before .number-at in
+    let the-number-at2 = c .before .before .before .before .before .before .before .before .number-at2 in
+    let the-number-at3 = c .before .before .before .before .before .before .before .number-at3 in
+    let the-count = c .before .before .before .before .before .before .count in
+    counts-right (the-pre .1 .0) (the-number-at .ensures .0) (the-number-at2 .ensures .0) (the-number-at3 .ensures .0) (the-count .ensures)
+
 repeated-passes-requires : (t : ℕ) → repeated-lts.Need-passes-requires (repeated-calls t) (repeated-at t) repeated.Post
 repeated-passes-requires t c κs =
-    let the-pre = c .before .before .before .before .before .before .before .before .pre in
-    let the-number-at = c .before .before .before .before .before .number-at in
-    let the-number-at2 = c .before .before .before .before .number-at2 in
-    let the-number-at3 = c .before .before .before .number-at3 in
-    let the-count = c .before .before .count in
-    let the-if1 = c .before .if1 in
-    (omega (arith, the-pre .0, the-number-at .ensures .0, (the-pre .1 .0) .numbers .least-is, (the-pre .1 .0) .numbers .small), (endless-ask (the-pre .1 .0) (the-number-at .ensures .0) (the-number-at2 .ensures .0) (the-number-at3 .ensures .0) (the-count .ensures) (the-if1 .taken), the-pre .1 .1))
-
-repeated-sub-passes : (t : ℕ) → repeated-lts.Need-sub-passes (repeated-calls t) (repeated-at t) repeated.Post
-repeated-sub-passes t c =
-    let the-pre = c .before .before .before .before .before .before .before .before .pre in
-    let the-number-at = c .before .before .before .before .before .number-at in
-    let the-number-at2 = c .before .before .before .before .number-at2 in
-    let the-number-at3 = c .before .before .before .number-at3 in
-    let the-count = c .before .before .count in
-    let the-if1 = c .before .if1 in
-    bounded-counts (the-pre .1 .0) (the-number-at .ensures .0) (the-number-at2 .ensures .0) (the-number-at3 .ensures .0) (the-count .ensures) (the-if1 .left) .0
-
-repeated-passes-requires-2 : (t : ℕ) → repeated-lts.Need-passes-requires-2 (repeated-calls t) (repeated-at t) repeated.Post
-repeated-passes-requires-2 t c κs =
-    let the-pre = c .before .before .before .before .before .before .before .before .pre in
-    let the-number-at = c .before .before .before .before .before .number-at in
-    let the-number-at2 = c .before .before .before .before .number-at2 in
-    let the-number-at3 = c .before .before .before .number-at3 in
-    let the-count = c .before .before .count in
-    let the-if1 = c .before .if1 in
-    let w = bounded-counts (the-pre .1 .0) (the-number-at .ensures .0) (the-number-at2 .ensures .0) (the-number-at3 .ensures .0) (the-count .ensures) (the-if1 .left) in (omega (arith, the-pre .0), (bounded-ask (the-pre .1 .0) (the-number-at .ensures .0) (the-number-at2 .ensures .0) (the-number-at3 .ensures .0) (the-count .ensures) (the-if1 .left), the-pre .1 .1))
+    let the-pre = c .before .before .before .before .before .before .before .before .before .before .before .before .before .pre in
+    let the-number-at = c .before .before .before .before .before .before .before .before .before .before .number-at in
+    let the-number-at2 = c .before .before .before .before .before .before .before .before .before .number-at2 in
+    let the-number-at3 = c .before .before .before .before .before .before .before .before .number-at3 in
+    let the-count = c .before .before .before .before .before .before .before .count in
+    let the-inner-start = c .before .before .before .before .before .before .inner-start in
+    let the-optional-passes = c .optional-passes in
+    let the-one = c .before .before .before .before .one in
+    (passes-ask (the-pre .1 .0) (the-number-at .ensures .0) (the-number-at2 .ensures .0) (the-number-at3 .ensures .0) (the-count .ensures) (the-inner-start .ensures) (the-optional-passes .ensures), omega (arith, the-one .ensures .kept .same-length, the-pre .1 .1))
 
 repeated-same-length : (t : ℕ) → repeated-lts.Need-same-length (repeated-calls t) (repeated-at t) repeated.Post
 repeated-same-length t c =
     let the-passes = c .before .before .passes in
-    the-passes .ensures .kept .same-length
+    let the-one = c .before .before .before .before .before .before .before .one in
+    the-passes .ensures .kept .same-length ∙ the-one .ensures .kept .same-length
 
 repeated-returns : (t : ℕ) → repeated-lts.Need-returns (repeated-calls t) (repeated-at t) repeated.Post
 repeated-returns t c =
-    let the-number-at = c .before .before .before .before .before .before .before .before .number-at in
-    let the-number-at2 = c .before .before .before .before .before .before .before .number-at2 in
-    let the-number-at3 = c .before .before .before .before .before .before .number-at3 in
-    let the-count = c .before .before .before .before .before .count in
-    let the-if1 = c .before .before .before .before .if1 in
+    let the-number-at = c .before .before .before .before .before .before .before .before .before .before .before .before .before .number-at in
+    let the-number-at2 = c .before .before .before .before .before .before .before .before .before .before .before .before .number-at2 in
+    let the-number-at3 = c .before .before .before .before .before .before .before .before .before .before .before .number-at3 in
+    let the-count = c .before .before .before .before .before .before .before .before .before .before .count in
+    let the-inner-start = c .before .before .before .before .before .before .before .before .before .inner-start in
+    let the-optional-passes = c .before .before .before .optional-passes in
+    let the-one = c .before .before .before .before .before .before .before .one in
     let the-passes = c .before .before .passes in
-    record { kept = λ m. endless-laid m (the-number-at .ensures .0) (the-number-at2 .ensures .0) (the-number-at3 .ensures .0) (the-count .ensures) (the-if1 .taken) (the-passes .ensures) .0; laid = λ m. endless-laid m (the-number-at .ensures .0) (the-number-at2 .ensures .0) (the-number-at3 .ensures .0) (the-count .ensures) (the-if1 .taken) (the-passes .ensures) .1 }
-
-repeated-same-length-2 : (t : ℕ) → repeated-lts.Need-same-length-2 (repeated-calls t) (repeated-at t) repeated.Post
-repeated-same-length-2 t c =
-    let the-passes2 = c .before .before .passes2 in
-    the-passes2 .ensures .kept .same-length
-
-repeated-returns-2 : (t : ℕ) → repeated-lts.Need-returns-2 (repeated-calls t) (repeated-at t) repeated.Post
-repeated-returns-2 t c =
-    let the-number-at = c .before .before .before .before .before .before .before .before .number-at in
-    let the-number-at2 = c .before .before .before .before .before .before .before .number-at2 in
-    let the-number-at3 = c .before .before .before .before .before .before .number-at3 in
-    let the-count = c .before .before .before .before .before .count in
-    let the-if1 = c .before .before .before .before .if1 in
-    let the-passes2 = c .before .before .passes2 in
-    record { kept = λ m. bounded-laid m (the-number-at .ensures .0) (the-number-at2 .ensures .0) (the-number-at3 .ensures .0) (the-count .ensures) (the-if1 .left) (the-passes2 .ensures) .0; laid = λ m. bounded-laid m (the-number-at .ensures .0) (the-number-at2 .ensures .0) (the-number-at3 .ensures .0) (the-count .ensures) (the-if1 .left) (the-passes2 .ensures) .1 }
+    repeat-passes (the-number-at .ensures .0) (the-number-at2 .ensures .0) (the-number-at3 .ensures .0) (the-count .ensures) (the-inner-start .ensures) (the-optional-passes .ensures) (the-one .ensures) (the-passes .ensures)
 
 abbrev row-calls : ℕ → row-lts.Claims
 row-calls t = (number-at-reads.Asked, number-at-reads.Learnt, one-below t, one.Post, forked-below t, forked.Post, chained-below t, chained.Post)
@@ -852,9 +666,9 @@ row-returns-3 t c =
     let the-chained = c .before .before .chained in
     rw (the-if2 .left) (the-chained .ensures)
 
-pub +chained+forked+headed+one+passes+repeated+row-spec : {M : Type 1} → statement M
-+chained+forked+headed+one+passes+repeated+row-spec =
-    close μ-chained μ-forked μ-headed μ-one μ-passes μ-repeated μ-row (λ t. chained-lts.spec (chained-calls t)
+pub +chained+forked+headed+one+repeated+row-spec : {M : Type 1} → statement M
++chained+forked+headed+one+repeated+row-spec =
+    close μ-chained μ-forked μ-headed μ-one μ-repeated μ-row (λ t. chained-lts.spec (chained-calls t)
     (chained-at t)
     chained.Post
     (chained-count-requires t)
@@ -925,33 +739,6 @@ pub +chained+forked+headed+one+passes+repeated+row-spec : {M : Type 1} → state
     (one-returns-5 t)
     (one-same-length-5 t)
     (one-returns-6 t))
-    (λ t. passes-lts.spec (passes-calls t)
-    (passes-at t)
-    passes.Post
-    (passes-add-after t)
-    (passes-add-after-2 t)
-    (passes-sub-entered t)
-    (passes-add-entered t)
-    (passes-entered-requires t)
-    (passes-headed-requires t)
-    (passes-sub-passes t)
-    (passes-passes-requires t)
-    (passes-add-begin t)
-    (passes-add-end t)
-    (passes-add-end-2 t)
-    (passes-add-pass-end t)
-    (passes-pass-end-requires t)
-    (passes-pass-fork-requires t)
-    (passes-headed-requires-2 t)
-    (passes-put-requires t)
-    (passes-sub-passes-2 t)
-    (passes-add-passes t)
-    (passes-passes-requires-2 t)
-    (passes-same-length t)
-    (passes-returns t)
-    (passes-same-length-2 t)
-    (passes-returns-2 t)
-    (passes-returns-3 t))
     (λ t. repeated-lts.spec (repeated-calls t)
     (repeated-at t)
     repeated.Post
@@ -962,13 +749,13 @@ pub +chained+forked+headed+one+passes+repeated+row-spec : {M : Type 1} → state
     (repeated-add-number-at-2 t)
     (repeated-number-at-requires-3 t)
     (repeated-count-requires t)
+    (repeated-inner-start-requires t)
+    (repeated-add-one t)
+    (repeated-one-requires t)
+    (repeated-optional-passes-requires t)
     (repeated-passes-requires t)
-    (repeated-sub-passes t)
-    (repeated-passes-requires-2 t)
     (repeated-same-length t)
-    (repeated-returns t)
-    (repeated-same-length-2 t)
-    (repeated-returns-2 t))
+    (repeated-returns t))
     λ t. row-lts.spec (row-calls t)
     (row-at t)
     row.Post
