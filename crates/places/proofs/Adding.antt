@@ -16,7 +16,8 @@ use Rattle.paper.specs.Pattern as pattern
 use Rattle.paper.specs.Layout.{upperNumber}
 use Rattle.paper.specs.Check.{numberAt, kindAt, bodyStart, bodyEnd, upperOf, repeatHead}
 use Rattle.paper.proofs.MemberList.{listOf}
-use Rattle.places.specs.Standing.{Stands, AllStand, Row, Passes, UpperRight, placesIn, groupsIn}
+use Rattle.pattern.specs.Walk.{placesIn, groupsIn}
+use Rattle.places.specs.Standing.{Stands, AllStand, Row, Passes, UpperRight}
 use Rattle.places.specs.Asked.{insideStart, CountsRight, ownPlaces, OwnPlaces, ownGroups, Capped, Counting, Counted, Summed}
 
 -- a product of counts is small

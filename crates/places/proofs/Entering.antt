@@ -9,8 +9,9 @@ use borrow.Author.Tests.{eq-eqb, ne-eqb}
 use lib.Dec.{eqb}
 use Rattle.paper.specs.Pattern.{Mode}
 use Rattle.paper.specs.Machine.{Core, skip, must, maybe, star, size, passFork, begin, beginOptional, ending}
+use Rattle.pattern.specs.Walk.{passPlaces}
 use Rattle.places.specs.Laid.{Holds, Lays, entryOf}
-use Rattle.places.specs.Asked.{optionalCore, passCore, passPlaces, innerStart}
+use Rattle.places.specs.Asked.{optionalCore, passCore, innerStart}
 
 -- what has no places is entered at what follows it
 pub entry-none : (n base next : ℕ) → n ≡ 0 → entryOf n base next ≡ next

@@ -8,8 +8,9 @@ use lib.ListN.{length}
 use Rattle.paper.specs.Check.{modeOf}
 use Rattle.paper.specs.Machine.{Core, size, passFork, ending}
 use Rattle.paper.specs.Tables.{placeOf}
+use Rattle.pattern.specs.Walk.{passPlaces}
 use Rattle.places.specs.Laid.{Holds, Kept, Lays, entryOf}
-use Rattle.places.specs.Asked.{Fitting, Put, Forked, passCore, passPlaces, innerStart, Model, inPlace, ahead, Moving, Copied, Begun, BegunLaid, Repeating, PassesLaid}
+use Rattle.places.specs.Asked.{Fitting, Put, Forked, passCore, innerStart, Model, inPlace, ahead, Moving, Copied, Begun, BegunLaid, Repeating, PassesLaid}
 use Rattle.places.proofs.Laying.{holds-kept, plain-holds, lays-kept, lays-behind, kept-none, kept-both}
 use Rattle.places.proofs.Sizes.{pass-size}
 use Rattle.places.proofs.Entering.{entry-small, end-small, entry-some, entry-same, passes-some, passes-none, places-must, places-may, inner-must, inner-may, core-must, core-none, core-star, core-maybe, must-lays, maybe-lays, star-lays}

@@ -14,9 +14,10 @@ use Rattle.paper.specs.Check.{numberAt, bodyEnd, kindAt, upperOf, modeOf, part,
 use Rattle.paper.specs.Machine.{Core, captures, chain, either, size, writtenOut, musts, optionals, opening, closing, fork, set}
 use Rattle.paper.proofs.Sizes.{size-written}
 use Rattle.paper.proofs.RepeatBody.{mode-of-number}
+use Rattle.pattern.specs.Walk.{placesIn, groupsIn, passPlaces}
 use Rattle.places.specs.Laid.{Holds, Kept, Lays, entryOf}
-use Rattle.places.specs.Standing.{Stands, Row, UpperRight, placesIn, groupsIn, rowPlaces, rowCore}
-use Rattle.places.specs.Asked.{Put, Counting, Counted, One, OneLaid, HeadLaid, Several, SeveralLaid, CountsRight, passPlaces, passCore, optionalCount, innerStart, inPlace, Repeating, PassesLaid, Repeat, RepeatLaid}
+use Rattle.places.specs.Standing.{Stands, Row, UpperRight, rowPlaces, rowCore}
+use Rattle.places.specs.Asked.{Put, Counting, Counted, One, OneLaid, HeadLaid, Several, SeveralLaid, CountsRight, passCore, optionalCount, innerStart, inPlace, Repeating, PassesLaid, Repeat, RepeatLaid}
 use Rattle.places.proofs.Laying.{holds-kept, plain-holds, put-holds, lays-kept, lays-none, kept-none, kept-both}
 use Rattle.places.proofs.Sizes.{row-size, optional-maybes}
 use Rattle.places.proofs.Entering.{entry-small, passes-none, first-inner}

@@ -8,8 +8,9 @@ use native.Mathlib.Omega.{arith}
 use Rattle.paper.specs.Pattern.{Mode, Pattern, Members, groups}
 use Rattle.paper.specs.Pattern.Members.{two, more}
 use Rattle.paper.specs.Machine.{Core, size, musts, maybes, writtenOut, chained, forked, chain, either, maybe}
+use Rattle.pattern.specs.Walk.{passPlaces}
 use Rattle.places.specs.Standing.{rowPlaces, rowCore}
-use Rattle.places.specs.Asked.{optionalCore, passCore, passPlaces}
+use Rattle.places.specs.Asked.{optionalCore, passCore}
 use Rattle.paper.proofs.MemberList.{listOf}
 use Rattle.paper.proofs.Sizes.{size-written}
 

@@ -11,7 +11,8 @@ use Rattle.paper.specs.Pattern.Pattern.{nothing, empty, bytes, group, sequence,
 use Rattle.paper.specs.Check.{bodyEnd, bodyStart, kindAt, repeatHead}
 use Rattle.paper.specs.Machine.{writtenOut}
 use Rattle.paper.proofs.MemberList.{listOf}
-use Rattle.places.specs.Standing.{Stands, Row, Pairs, Passes, groupsIn, rowPlaces, rowCore}
+use Rattle.pattern.specs.Walk.{groupsIn}
+use Rattle.places.specs.Standing.{Stands, Row, Pairs, Passes, rowPlaces, rowCore}
 use Rattle.places.proofs.Adding.{members-row, members-places, members-groups, members-count, members-two}
 use Rattle.places.proofs.Sizes.{row-chained, row-forked}
 

@@ -23,7 +23,8 @@ use Rattle.paper.proofs.MemberList.{listOf, list-accepted, groups-listed}
 use Rattle.paper.proofs.MemberList as list
 use Rattle.paper.proofs.Turns.{Within, walk-all-induction}
 use Rattle.paper.proofs.Header.{header-accepted, walk-within}
-use Rattle.places.specs.Standing.{UpperRight, Stands, AllStand, Row, groupsIn}
+use Rattle.pattern.specs.Walk.{groupsIn}
+use Rattle.places.specs.Standing.{UpperRight, Stands, AllStand, Row}
 
 -- a tree that stands at `at`, with so many groups before it
 pub record Stood (bs : List ℕ) (at before : ℕ) (e : Pattern) : Type 0 where

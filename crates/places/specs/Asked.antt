@@ -11,8 +11,9 @@ use Rattle.paper.specs.Check.{numberAt, bodyEnd, repeatHead, upperOf, modeOf}
 use Rattle.paper.specs.Reading.{everyByte}
 use Rattle.paper.specs.Machine.{Core, skip, eats, maybe, star, musts, writtenOut, passFork, size}
 use Rattle.paper.specs.Tables.{placeNumbers, placeOf, forkPlace, setPlace}
+use Rattle.pattern.specs.Walk.{placesIn, groupsIn, passPlaces}
 use Rattle.places.specs.Laid.{kindOf, nextOf, aOf, nOf, Holds, Kept, Lays, entryOf}
-use Rattle.places.specs.Standing.{Stands, Row, Passes, placesIn, groupsIn, rowPlaces, rowCore}
+use Rattle.places.specs.Standing.{Stands, Row, Passes, rowPlaces, rowCore}
 
 -- the places of the largest pattern with a search's wrap around it
 abbrev pub mostPlaces : ℕ
@@ -167,9 +168,6 @@ optionalCore false (suc may) mode first n e = maybe mode first n e (optionalCore
 
 abbrev pub passCore : ℕ → Bool → ℕ → Mode → ℕ → ℕ → Core → Core
 passCore least endless may mode first n e = musts least first n e (optionalCore endless may mode first n e)
-
-abbrev pub passPlaces : ℕ → ℕ → ℕ → ℕ
-passPlaces least may p = least * (1 + p) + may * (3 + p)
 
 -- `optional_passes`: how many optional passes a repeat has, from the numbers that are read
 abbrev pub optionalCount : ℕ → ℕ → ℕ

@@ -11,6 +11,7 @@ use Rattle.paper.specs.Pattern.Members.{two, more}
 use Rattle.paper.specs.Layout.{upperNumber, modeNumber}
 use Rattle.paper.specs.Check.{numberAt, bodyLength, kindAt, bodyStart, bodyEnd, part, rangesOf, repeatHead}
 use Rattle.paper.specs.Machine.{Core, skip, chain, either, writtenOut}
+use Rattle.pattern.specs.Walk.{placesIn}
 
 -- a byte set's body is these ranges
 pub record Pairs (bs : List ℕ) (at : ℕ) (ranges : List Range) : Type 0 where
@@ -54,15 +55,6 @@ abbrev mutual
 abbrev pub Row : List ℕ → ℕ → ℕ → List Pattern → Type 0
 Row bs at stop [] = at ≡ stop
 Row bs at stop (e ∷ es) = Stands bs at e × Row bs (bodyEnd bs at) stop es
-
--- what records in a row add up to
-abbrev pub placesIn : List Pattern → ℕ
-placesIn [] = 0
-placesIn (e ∷ es) = places e + placesIn es
-
-abbrev pub groupsIn : List Pattern → ℕ
-groupsIn [] = 0
-groupsIn (e ∷ es) = groups e + groupsIn es
 
 -- the places of a row that is laid as a sequence, or as an alternation, with a fork before each but the last
 abbrev pub rowPlaces : Bool → List Pattern → ℕ
