@@ -14,10 +14,10 @@ use Rattle.paper.specs.Check.{numberAt, bodyEnd, kindAt, upperOf, modeOf, part,
 use Rattle.paper.specs.Machine.{Core, captures, chain, either, size, writtenOut, musts, optionals, opening, closing, fork, set}
 use Rattle.paper.proofs.Sizes.{size-written}
 use Rattle.paper.proofs.RepeatBody.{mode-of-number}
-use Rattle.pattern.specs.Walk.{placesIn, groupsIn, passPlaces}
+use Rattle.pattern.specs.Walk.{placesIn, groupsIn, optionalPasses, passPlaces}
 use Rattle.places.specs.Laid.{Holds, Kept, Lays, entryOf}
 use Rattle.places.specs.Standing.{Stands, Row, UpperRight, rowPlaces, rowCore}
-use Rattle.places.specs.Asked.{Put, Counting, Counted, One, OneLaid, HeadLaid, Several, SeveralLaid, CountsRight, passCore, optionalCount, innerStart, inPlace, Repeating, PassesLaid, Repeat, RepeatLaid}
+use Rattle.places.specs.Asked.{Put, Counting, Counted, One, OneLaid, HeadLaid, Several, SeveralLaid, CountsRight, passCore, innerStart, inPlace, Repeating, PassesLaid, Repeat, RepeatLaid}
 use Rattle.places.proofs.Laying.{holds-kept, plain-holds, put-holds, lays-kept, lays-none, kept-none, kept-both}
 use Rattle.places.proofs.Sizes.{row-size, optional-maybes}
 use Rattle.places.proofs.Entering.{entry-small, passes-none, first-inner}
@@ -36,18 +36,18 @@ repeat-counting m =
     }
 
 -- with an upper end and without: the places of the passes are the repeat's
-passes-places : (endless : Bool) (least most p : ℕ) → repeatPlaces least (cond endless noEnd (upTo most)) p ≡ passPlaces least (cond endless 1 (most - least)) p
-passes-places true least most p = omega arith
-passes-places false least most p = refl
+passes-places : (least : ℕ) (upper : Upper) (p : ℕ) → repeatPlaces least upper p ≡ passPlaces least (optionalPasses least upper) p
+passes-places least noEnd p = omega arith
+passes-places least (upTo most) p = refl
 
 -- they are the repeat written out
 passes-core : (endless : Bool) (least most : ℕ) (mode : Mode) (first g : ℕ) (e : Core)
-    → musts least first g e (optionals least (cond endless noEnd (upTo most)) mode first g e) ≡ passCore least endless (cond endless 1 (most - least)) mode first g e
+    → musts least first g e (optionals least (cond endless noEnd (upTo most)) mode first g e) ≡ passCore least endless (optionalPasses least (cond endless noEnd (upTo most))) mode first g e
 passes-core true least most mode first g e = refl
 passes-core false least most mode first g e = ap (musts least first g e) (sym (optional-maybes (most - least) mode first g e))
 
 -- without an upper end there is one optional pass
-optional-once : (endless : Bool) (least most : ℕ) → endless ≡ true → cond endless 1 (most - least) ≤ 1
+optional-once : (endless : Bool) (least most : ℕ) → endless ≡ true → optionalPasses least (cond endless noEnd (upTo most)) ≤ 1
 optional-once true least most is = omega arith
 optional-once false least most is = let z : _≡_ {A = ℕ} 0 1 = cc in absurd (omega arith)
 
@@ -87,16 +87,16 @@ module _ {bs : List ℕ} {start stop base next first least most mode p g k : ℕ
   counts-right = record { small = omega (arith, least-is, m .numbers .small); right = bounded-counts }
 
   -- the places of the passes are the repeat's
-  pub total : repeatPlaces (m .least) (m .upper) (places (m .tree)) ≡ passPlaces least (optionalCount least most) p
-  total = let e : repeatPlaces (m .least) (m .upper) (places (m .tree)) ≡ repeatPlaces least (upperOf most) p = rw (least-is, upper-is, places-is) in e ∙ passes-places (eqb most 65535) least most p
+  pub total : repeatPlaces (m .least) (m .upper) (places (m .tree)) ≡ passPlaces least (optionalPasses least (upperOf most)) p
+  total = let e : repeatPlaces (m .least) (m .upper) (places (m .tree)) ≡ repeatPlaces least (upperOf most) p = rw (least-is, upper-is, places-is) in e ∙ passes-places least (upperOf most) p
 
   -- there is a pass
-  some-pass : least + optionalCount least most ≡ 0 → ⊥
-  some-pass none = m .some (total ∙ passes-none least (optionalCount least most) p none)
+  some-pass : least + optionalPasses least (upperOf most) ≡ 0 → ⊥
+  some-pass none = m .some (total ∙ passes-none least (optionalPasses least (upperOf most)) p none)
 
   -- where the inner part of the first pass stands
-  pub inner-room : (base ≤ innerStart least base) × (innerStart least base + p ≤ base + passPlaces least (optionalCount least most) p)
-  inner-room = first-inner least (optionalCount least most) base p some-pass
+  pub inner-room : (base ≤ innerStart least base) × (innerStart least base + p ≤ base + passPlaces least (optionalPasses least (upperOf most)) p)
+  inner-room = first-inner least (optionalPasses least (upperOf most)) base p some-pass
 
   -- what laying it asks for
   abbrev pub inner-ask : {model : ℕ} → model ≡ innerStart least base → One bs (start + repeatHead) stop model (model + p) first p
@@ -111,7 +111,7 @@ module _ {bs : List ℕ} {start stop base next first least most mode p g k : ℕ
       }
 
   -- what the passes are asked for
-  pub passes-ask : {model may : ℕ} → model ≡ innerStart least base → may ≡ optionalCount least most
+  pub passes-ask : {model may : ℕ} → model ≡ innerStart least base → may ≡ optionalPasses least (upperOf most)
       → Repeating model p first g least may (eqb most 65535) base next
   passes-ask {model} at em =
       subst (λ (k : ℕ). Repeating model p first g least k (eqb most 65535) base next) (sym em)
@@ -126,7 +126,7 @@ module _ {bs : List ℕ} {start stop base next first least most mode p g k : ℕ
 
   -- the tree written out, by the numbers that were read
   written : writtenOut (repeat (m .least) (m .upper) (m .mode) (m .tree)) first
-      ≡ passCore least (eqb most 65535) (optionalCount least most) (modeOf mode) first g (writtenOut (m .tree) first)
+      ≡ passCore least (eqb most 65535) (optionalPasses least (upperOf most)) (modeOf mode) first g (writtenOut (m .tree) first)
   written =
       let e : writtenOut (repeat (m .least) (m .upper) (m .mode) (m .tree)) first
       ≡ musts least first g (writtenOut (m .tree) first) (optionals least (upperOf most) (modeOf mode) first g (writtenOut (m .tree) first)) =
@@ -134,7 +134,7 @@ module _ {bs : List ℕ} {start stop base next first least most mode p g k : ℕ
       e ∙ passes-core (eqb most 65535) least most (modeOf mode) first g (writtenOut (m .tree) first)
 
   -- the inner part and the passes lay the repeat
-  passes-lay : {model may : ℕ} {t t1 t2 : List ℕ} → model ≡ innerStart least base → may ≡ optionalCount least most
+  passes-lay : {model may : ℕ} {t t1 t2 : List ℕ} → model ≡ innerStart least base → may ≡ optionalPasses least (upperOf most)
       → OneLaid bs (start + repeatHead) stop model (model + p) first p t t1 → PassesLaid model p first g least may (eqb most 65535) mode base next t1 t2
       → Kept base (base + repeatPlaces (m .least) (m .upper) (places (m .tree))) t t2
       × Lays t2 bs (writtenOut (repeat (m .least) (m .upper) (m .mode) (m .tree)) first) base next
@@ -151,7 +151,7 @@ module _ {bs : List ℕ} {start stop base next first least most mode p g k : ℕ
 -- so they do for every tree that meets what was asked
 pub repeat-passes : {bs : List ℕ} {start stop base next first least most mode p g k model may : ℕ} {t t1 t2 : List ℕ} → least ≡ numberAt bs start
     → most ≡ numberAt bs (start + 2) → mode ≡ numberAt bs (start + 4) → Counted bs (start + repeatHead) stop p g k → model ≡ innerStart least base
-    → may ≡ optionalCount least most → OneLaid bs (start + repeatHead) stop model (model + p) first p t t1
+    → may ≡ optionalPasses least (upperOf most) → OneLaid bs (start + repeatHead) stop model (model + p) first p t t1
     → PassesLaid model p first g least may (eqb most 65535) mode base next t1 t2 → RepeatLaid bs start stop base next first t t2
 repeat-passes el em ed c at ek inner r =
     record { kept = λ m. passes-lay m el em ed c at ek inner r .0; laid = λ m. passes-lay m el em ed c at ek inner r .1 }

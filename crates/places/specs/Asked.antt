@@ -169,10 +169,6 @@ optionalCore false (suc may) mode first n e = maybe mode first n e (optionalCore
 abbrev pub passCore : ℕ → Bool → ℕ → Mode → ℕ → ℕ → Core → Core
 passCore least endless may mode first n e = musts least first n e (optionalCore endless may mode first n e)
 
--- `optional_passes`: how many optional passes a repeat has, from the numbers that are read
-abbrev pub optionalCount : ℕ → ℕ → ℕ
-optionalCount least most = cond (eqb most noUpperEnd) 1 (most - least)
-
 -- `inner_start`: where the inner part of the first pass starts
 abbrev pub innerStart : ℕ → ℕ → ℕ
 innerStart least base = cond (eqb least 0) (base + 2) (base + 1)

@@ -9,8 +9,9 @@ ghost use lib.ListN.{length};
 ghost use Rattle.paper.specs.Limits.{patternBytes, rowCount};
 ghost use Rattle.paper.specs.Pattern.{repeatPlaces};
 ghost use Rattle.paper.specs.Check.{upperOf};
+ghost use Rattle.pattern.specs.Walk.{optionalPasses};
 ghost use Rattle.places.specs.Laid.{entryOf};
-ghost use Rattle.places.specs.Asked.{Fitting, Put, Forked, Capped, insideStart, CountsRight, ownPlaces, OwnPlaces, ownGroups, Counting, Counted, One, OneLaid, Head, HeadLaid, Several, SeveralLaid, Ends, optionalCount, innerStart, movedTo, movedOther, Moving, PutMoved, Copied, Begun, BegunLaid, Repeating, PassesLaid, Repeat, RepeatLaid, Star, StarLaid, tableRoom, mostPlaces, mostNumber, mostCounted, mostOwn};
+ghost use Rattle.places.specs.Asked.{Fitting, Put, Forked, Capped, insideStart, CountsRight, ownPlaces, OwnPlaces, ownGroups, Counting, Counted, One, OneLaid, Head, HeadLaid, Several, SeveralLaid, Ends, innerStart, movedTo, movedOther, Moving, PutMoved, Copied, Begun, BegunLaid, Repeating, PassesLaid, Repeat, RepeatLaid, Star, StarLaid, tableRoom, mostPlaces, mostNumber, mostCounted, mostOwn};
 ghost use Rattle.places.specs.Built.{Accepted, BuiltMatch, BuiltSearch};
 
 // The numbers of the kinds of place.
@@ -187,7 +188,7 @@ fn pass_end(endless: bool, may: usize, base: usize, after: usize, next: usize) -
 // How many optional passes a repeat has: without an upper end one, whose end leads back.
 fn optional_passes(least: usize, most: usize) -> usize
     requires { ⌜ CountsRight least most ⌝ }
-    ensures { λ r. ⌜ r ≡ optionalCount least most ⌝ }
+    ensures { λ r. ⌜ r ≡ optionalPasses least (upperOf most) ⌝ }
 {
     if most == Pattern::NO_UPPER_END {
         1
