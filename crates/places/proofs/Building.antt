@@ -1,59 +1,32 @@
 -- Building, function by function: what each call is asked for follows from what its caller was, and the places that the calls lay are together those
 -- of the caller's tree. The places are written in ascending order, so each later call leaves what stands before it.
 use Prim.Native.Nat.{ℕ, _+_, _≤_}
-use mathlib.Core.Path.{_≡_, sym, subst, _∙_}
-use mathlib.Core.Bool.{Bool, false, cond}
-use mathlib.Core.List.{List, [], _∷_}
+use mathlib.Core.Path.{_≡_, sym, subst}
+use mathlib.Core.Bool.{Bool, cond}
+use mathlib.Core.List.{List}
 use native.Mathlib.Omega.{arith}
 use borrow.Author.Tests.{eq-eqb, ne-eqb}
 use lib.ListN.{length}
 use Rattle.paper.specs.Pattern.{greedy, lazy}
-use Rattle.paper.specs.Machine.{writtenOut, passFork}
+use Rattle.paper.specs.Machine.{passFork}
 use Rattle.paper.specs.Tables.{placeOf}
-use Rattle.paper.proofs.Sizes.{size-written}
 use Rattle.places.specs.Laid.{Holds, entryOf}
-use Rattle.places.specs.Asked.{Fitting, Put, Forked, One, Head, HeadLaid, Several, SeveralLaid}
-use Rattle.places.proofs.Laying.{holds-kept, plain-holds, lays-none, kept-none, kept-both}
+use Rattle.places.specs.Asked.{Fitting, Put, Forked, One, OneLaid, Head, HeadLaid}
+use Rattle.places.proofs.Laying.{holds-kept, plain-holds, kept-both}
 use Rattle.places.proofs.Entering.{entry-small}
-
--- one record is a row of one
-abbrev pub single : {bs : List ℕ} {at stop base next first n : ℕ} → One bs at stop base next first n → Several bs at stop false base next first n
-single m =
-    record {
-      records = m .tree ∷ [];
-      stand = (m .inside .stand, m .inside .end-is);
-      some = omega (arith, m .inside .end-is);
-      ends = m .inside .ends;
-      short = m .inside .short;
-      few = omega (arith, m .inside .few);
-      places-are = omega (arith, m .places-are);
-      small = m .small;
-      room = m .room;
-      follows = m .follows;
-    }
 
 -- `headed`: the place before the expression, and the expression, which may have no places
 pub head-stands : (bs : List ℕ) {kind a n base v w : ℕ} {t t1 : List ℕ} → v ≡ w → Head kind a n → Put t base kind v a n t1 → Holds t1 bs base (placeOf bs kind w a n)
 head-stands bs {kind} {a} {n} {base} {t1 = t1} ev h put = subst (λ (v : ℕ). Holds t1 bs base (placeOf bs kind v a n)) ev (plain-holds bs put (h .no-set))
 
 -- a head and the expression behind it
-pub head-row : {bs : List ℕ} {at stop kind a n base next first p v : ℕ} {t t1 t2 : List ℕ} → v ≡ entryOf p (base + 1) next → Head kind a n
-    → Put t base kind v a n t1 → SeveralLaid bs at stop false (base + 1) next first p t1 t2 → HeadLaid bs at stop kind a n base next first p t t2
-head-row {bs} {base = base} {p = p} ev h put row =
+pub head-one : {bs : List ℕ} {at stop kind a n base next first p v : ℕ} {t t1 t2 : List ℕ} → v ≡ entryOf p (base + 1) next → Head kind a n
+    → Put t base kind v a n t1 → OneLaid bs at stop (base + 1) next first p t1 t2 → HeadLaid bs at stop kind a n base next first p t t2
+head-one {bs} {base = base} {p = p} ev h put one =
     record {
-      kept = kept-both base (base + 1 + p) (put .kept) (row .kept) (omega arith) (omega arith) (omega arith) (omega arith);
-      head = holds-kept (row .kept) (omega arith) (head-stands bs ev h put);
-      laid = λ m. row .laid (single m);
-    }
-
--- a head before an expression without places
-pub head-alone : {bs : List ℕ} {at stop kind a n base next first p v : ℕ} {t t1 : List ℕ} → v ≡ entryOf p (base + 1) next → Head kind a n
-    → Put t base kind v a n t1 → p ≡ 0 → HeadLaid bs at stop kind a n base next first p t t1
-head-alone {bs} {base = base} {next = next} {first = first} {p = p} {t1 = t1} ev h put none =
-    record {
-      kept = kept-both base (base + 1 + p) (put .kept) (kept-none base base t1) (omega arith) (omega arith) (omega arith) (omega arith);
-      head = head-stands bs ev h put;
-      laid = λ m. lays-none (writtenOut (m .tree) first) t1 bs (base + 1) next (size-written (m .tree) first ∙ sym (m .places-are) ∙ none);
+      kept = kept-both base (base + 1 + p) (put .kept) (one .kept) (omega arith) (omega arith) (omega arith) (omega arith);
+      head = holds-kept (one .kept) (omega arith) (head-stands bs ev h put);
+      laid = one .laid;
     }
 
 -- the numbers of a head fit

@@ -17,7 +17,7 @@ use Rattle.paper.proofs.RepeatBody.{mode-of-number}
 use Rattle.pattern.specs.Walk.{placesIn, groupsIn, optionalPasses, passPlaces}
 use Rattle.places.specs.Laid.{Holds, Kept, Lays, entryOf}
 use Rattle.places.specs.Standing.{Stands, Row, UpperRight, rowPlaces, rowCore}
-use Rattle.places.specs.Asked.{Put, Counting, Counted, One, OneLaid, HeadLaid, Several, SeveralLaid, CountsRight, passCore, innerStart, inPlace, Repeating, PassesLaid, Repeat, RepeatLaid}
+use Rattle.places.specs.Asked.{Fitting, Put, Counting, Counted, One, OneLaid, HeadLaid, Several, SeveralLaid, CountsRight, passCore, innerStart, inPlace, Repeating, PassesLaid, Repeat, RepeatLaid}
 use Rattle.places.proofs.Laying.{holds-kept, plain-holds, put-holds, lays-kept, lays-none, kept-none, kept-both}
 use Rattle.places.proofs.Sizes.{row-size, optional-maybes}
 use Rattle.places.proofs.Entering.{entry-small, passes-none, first-inner}
@@ -579,3 +579,65 @@ row-header {bs} {at} {stop} m = on (m .records) (m .stand) (m .some)
     on : (es : List Pattern) → Row bs at stop es → at < stop → bodyEnd bs at ≤ stop
     on [] h lt = absurd (omega arith)
     on (e ∷ es) h lt = omega (arith, row-long es bs (bodyEnd bs at) stop (h .1))
+
+-- `chained` and `forked`, record by record: what is left is a row, and whoever lays it has laid all
+pub record Along (bs : List ℕ) (start stop : ℕ) (forks : Bool) (base next first n : ℕ) (before : List ℕ) (at end from first' left : ℕ) (now : List ℕ) : Type 0 where
+  pub row : Several bs at stop forks from next first' left
+  pub end-is : end ≡ bodyEnd bs at
+  pub passed : start ≤ at
+  pub same-length : length now ≡ length before
+  pub laid : (after : List ℕ) → SeveralLaid bs at stop forks from next first' left now after → SeveralLaid bs start stop forks base next first n before after
+
+-- all records are left
+pub along-all : {bs : List ℕ} {start stop base next first n end : ℕ} {forks : Bool} (t : List ℕ) → Several bs start stop forks base next first n
+    → end ≡ bodyEnd bs start → Along bs start stop forks base next first n t start end base first n t
+along-all t m ee = record { row = m; end-is = ee; passed = omega arith; same-length = refl; laid = λ after r. r }
+
+-- one record less
+pub along-chain : {bs : List ℕ} {start stop base next first n at end end' from first' left p g k v : ℕ} {t0 t t1 : List ℕ}
+    → Along bs start stop false base next first n t0 at end from first' left t → (end ≡ stop → ⊥) → Counted bs at end p g k
+    → v ≡ entryOf (left - p) (from + p) next → OneLaid bs at end from v first' p t t1 → end' ≡ bodyEnd bs end
+    → Along bs start stop false base next first n t0 end end' (from + p) (first' + g) (left - p) t1
+along-chain i es c ev o ee' =
+    record {
+      row = chain-rest (i .end-is) es c (i .row);
+      end-is = ee';
+      passed = omega (arith, i .passed, i .end-is);
+      same-length = o .kept .same-length ∙ i .same-length;
+      laid = λ after r. i .laid after (chain-laid (i .end-is) es c ev (i .row) o r);
+    }
+
+-- one less behind its fork
+pub along-fork : {bs : List ℕ} {start stop base next first n at end end' from first' left p g k u v : ℕ} {t0 t t1 t2 : List ℕ}
+    → Along bs start stop true base next first n t0 at end from first' left t → (end ≡ stop → ⊥) → Counted bs at end p g k
+    → u ≡ entryOf p (from + 1) next → v ≡ entryOf (left - 1 - p) (from + 1 + p) next → Put t from 0 u v 0 t1
+    → OneLaid bs at end (from + 1) next first' p t1 t2 → end' ≡ bodyEnd bs end
+    → Along bs start stop true base next first n t0 end end' (from + 1 + p) (first' + g) (left - 1 - p) t2
+along-fork i es c eu ev put o ee' =
+    record {
+      row = fork-rest (i .end-is) es c (i .row);
+      end-is = ee';
+      passed = omega (arith, i .passed, i .end-is);
+      same-length = o .kept .same-length ∙ put .kept .same-length ∙ i .same-length;
+      laid = λ after r. i .laid after (fork-laid (i .end-is) es c eu ev (i .row) put o r);
+    }
+
+-- the last record
+pub along-last : {bs : List ℕ} {start stop base next first n at end from first' left : ℕ} {forks : Bool} {t0 t t1 : List ℕ}
+    → Along bs start stop forks base next first n t0 at end from first' left t → end ≡ stop → OneLaid bs at stop from next first' left t t1
+    → SeveralLaid bs start stop forks base next first n t0 t1
+along-last i es o = i .laid _ (last-laid (i .end-is) es o)
+
+-- the numbers of a fork fit
+pub fork-fits : {bs : List ℕ} {start stop base next first n at end from first' left p g k u v : ℕ} {t0 t : List ℕ}
+    → Along bs start stop true base next first n t0 at end from first' left t → (end ≡ stop → ⊥) → Counted bs at end p g k
+    → u ≡ entryOf p (from + 1) next → v ≡ entryOf (left - 1 - p) (from + 1 + p) next → 2040 ≤ length t0 → Fitting t from u v 0
+fork-fits {next = next} {from = from} {left = left} {p = p} i es c eu ev room =
+    let m = i .row in
+    let sum = fork-sum (i .end-is) es c m in
+    record {
+      room = omega (arith, m .room, i .same-length);
+      next-fits = omega (arith, eu, entry-small p (from + 1) next {most = 65535} (omega (arith, m .room)) (omega (arith, m .follows)));
+      a-fits = omega (arith, ev, entry-small (left - 1 - p) (from + 1 + p) next {most = 65535} (omega (arith, m .room)) (omega (arith, m .follows)));
+      n-fits = omega arith;
+    }

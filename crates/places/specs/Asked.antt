@@ -154,11 +154,6 @@ pub record SeveralLaid (bs : List ℕ) (at stop : ℕ) (forks : Bool) (base next
   pub kept : Kept base (base + n) before after
   pub laid : (m : Several bs at stop forks base next first n) → Lays after bs (rowCore forks (m .records) first) base next
 
--- `forked` and `chained`: the first record ends here, and others come behind it
-pub record Ends (bs : List ℕ) (at stop end : ℕ) : Type 0 where
-  pub is : end ≡ bodyEnd bs at
-  pub not-last : end ≡ stop → ⊥
-
 -- `passes`: passes that must be made, then optional ones; without an upper end there is one of these
 abbrev pub optionalCore : Bool → ℕ → Mode → ℕ → ℕ → Core → Core
 optionalCore true zero mode first n e = skip

@@ -8,10 +8,10 @@ ghost use Prim.Native.Nat.{_+_, _-_, _*_, _≤_, _<_};
 ghost use lib.ListN.{length};
 ghost use Rattle.paper.specs.Limits.{patternBytes, rowCount};
 ghost use Rattle.paper.specs.Pattern.{repeatPlaces};
-ghost use Rattle.paper.specs.Check.{upperOf};
+ghost use Rattle.paper.specs.Check.{bodyEnd, upperOf};
 ghost use Rattle.pattern.specs.Walk.{optionalPasses};
 ghost use Rattle.places.specs.Laid.{entryOf};
-ghost use Rattle.places.specs.Asked.{Fitting, Put, Forked, Capped, insideStart, CountsRight, ownPlaces, OwnPlaces, ownGroups, Counting, Counted, One, OneLaid, Head, HeadLaid, Several, SeveralLaid, Ends, innerStart, movedTo, movedOther, Moving, PutMoved, Copied, Begun, BegunLaid, Repeating, PassesLaid, Repeat, RepeatLaid, Star, StarLaid, tableRoom, mostPlaces, mostNumber, mostCounted, mostOwn};
+ghost use Rattle.places.specs.Asked.{Fitting, Put, Forked, Capped, insideStart, CountsRight, ownPlaces, OwnPlaces, ownGroups, Counting, Counted, One, OneLaid, Head, HeadLaid, Several, SeveralLaid, innerStart, movedTo, movedOther, Moving, PutMoved, Copied, Begun, BegunLaid, Repeating, PassesLaid, Repeat, RepeatLaid, Star, StarLaid, tableRoom, mostPlaces, mostNumber, mostCounted, mostOwn};
 ghost use Rattle.places.specs.Built.{Accepted, BuiltMatch, BuiltSearch};
 
 // The numbers of the kinds of place.
@@ -339,6 +339,15 @@ struct Part {
     places: usize,
 }
 
+// Where the record at an offset ends.
+fn record_end(pattern: &[u8], at: usize) -> usize
+    requires { ⌜ at + 4 ≤ length (now pattern) ⌝ }
+    requires { ⌜ length (now pattern) ≤ patternBytes ⌝ }
+    ensures { λ r. ⌜ r ≡ bodyEnd (now (pattern .entry)) at ⌝ }
+{
+    at + 4 + number_at(pattern, at)
+}
+
 // A place that stands before one expression, and that expression behind it: an open, or a begin of a pass.
 fn headed(
     pattern: &[u8],
@@ -355,11 +364,15 @@ fn headed(
     requires { ⌜ tableRoom ≤ length (now table) ⌝ }
     ensures { λ _. ⌜ HeadLaid (now (pattern .entry)) (part .at) (part .stop) kind a n base next (part .first) (part .places) (now (table .entry)) (now (table .exit)) ⌝ }
 {
-    let places = part.places;
-    put(table, base, kind, entered(places, base + 1, next), a, n);
-    if places != 0 {
-        row(pattern, table, part, false, base + 1, next);
-    }
+    put(
+        table,
+        base,
+        kind,
+        entered(part.places, base + 1, next),
+        a,
+        n,
+    );
+    one(pattern, table, part, base + 1, next);
 }
 
 // The places of one repeat: the inner part of its first pass, and the passes around it and its copies.
@@ -446,82 +459,92 @@ fn row(pattern: &[u8], table: &mut [u16], part: Part, forks: bool, base: usize, 
     requires { ⌜ tableRoom ≤ length (now table) ⌝ }
     ensures { λ _. ⌜ SeveralLaid (now (pattern .entry)) (part .at) (part .stop) forks base next (part .first) (part .places) (now (table .entry)) (now (table .exit)) ⌝ }
 {
-    let at = part.at;
-    let stop = part.stop;
-    let end = at + 4 + number_at(pattern, at);
-    if end == stop {
-        one(pattern, table, part, base, next);
-    } else if forks {
-        forked(pattern, table, part, end, base, next);
+    if forks {
+        forked(pattern, table, part, base, next);
     } else {
-        chained(pattern, table, part, end, base, next);
+        chained(pattern, table, part, base, next);
     }
 }
 
-// A record of an alternation that is not the last, behind its fork, and then the others.
-fn forked(pattern: &[u8], table: &mut [u16], part: Part, end: usize, base: usize, next: usize)
+// The records of an alternation, each but the last behind its fork.
+fn forked(pattern: &[u8], table: &mut [u16], part: Part, base: usize, next: usize)
     requires { ⌜ Several (now pattern) (part .at) (part .stop) true base next (part .first) (part .places) ⌝ }
-    requires { ⌜ Ends (now pattern) (part .at) (part .stop) end ⌝ }
     requires { ⌜ tableRoom ≤ length (now table) ⌝ }
     ensures { λ _. ⌜ SeveralLaid (now (pattern .entry)) (part .at) (part .stop) true base next (part .first) (part .places) (now (table .entry)) (now (table .exit)) ⌝ }
 {
-    let at = part.at;
     let stop = part.stop;
-    let first = part.first;
-    let places = part.places;
-    let own = count(pattern, at, end);
-    let mine = own.places;
-    let second = base + 1 + mine;
-    let rest = places - 1 - mine;
-    let preferred = entered(mine, base + 1, next);
-    let other = entered(rest, second, next);
-    let here = Part {
+    let mut at = part.at;
+    let mut first = part.first;
+    let mut left = part.places;
+    let mut from = base;
+    let mut end = record_end(pattern, at);
+    while end != stop {
+        let own = count(pattern, at, end);
+        let mine = own.places;
+        let second = from + 1 + mine;
+        let rest = left - 1 - mine;
+        let preferred = entered(mine, from + 1, next);
+        put(table, from, FORK, preferred, entered(rest, second, next), 0);
+        let here = Part {
+            at,
+            stop: end,
+            first,
+            places: mine,
+        };
+        one(pattern, table, here, from + 1, next);
+        at = end;
+        first += own.groups;
+        left = rest;
+        from = second;
+        end = record_end(pattern, at);
+    }
+    let last = Part {
         at,
-        stop: end,
-        first,
-        places: mine,
-    };
-    let behind = Part {
-        at: end,
         stop,
-        first: first + own.groups,
-        places: rest,
+        first,
+        places: left,
     };
-    put(table, base, FORK, preferred, other, 0);
-    one(pattern, table, here, base + 1, next);
-    row(pattern, table, behind, true, second, next);
+    one(pattern, table, last, from, next);
 }
 
-// A record of a sequence that is not the last, and then the others.
-fn chained(pattern: &[u8], table: &mut [u16], part: Part, end: usize, base: usize, next: usize)
+// The records of a sequence, each followed by the next that has places.
+fn chained(pattern: &[u8], table: &mut [u16], part: Part, base: usize, next: usize)
     requires { ⌜ Several (now pattern) (part .at) (part .stop) false base next (part .first) (part .places) ⌝ }
-    requires { ⌜ Ends (now pattern) (part .at) (part .stop) end ⌝ }
     requires { ⌜ tableRoom ≤ length (now table) ⌝ }
     ensures { λ _. ⌜ SeveralLaid (now (pattern .entry)) (part .at) (part .stop) false base next (part .first) (part .places) (now (table .entry)) (now (table .exit)) ⌝ }
 {
-    let at = part.at;
     let stop = part.stop;
-    let first = part.first;
-    let places = part.places;
-    let own = count(pattern, at, end);
-    let mine = own.places;
-    let second = base + mine;
-    let rest = places - mine;
-    let out = entered(rest, second, next);
-    let here = Part {
+    let mut at = part.at;
+    let mut first = part.first;
+    let mut left = part.places;
+    let mut from = base;
+    let mut end = record_end(pattern, at);
+    while end != stop {
+        let own = count(pattern, at, end);
+        let mine = own.places;
+        let second = from + mine;
+        let rest = left - mine;
+        let out = entered(rest, second, next);
+        let here = Part {
+            at,
+            stop: end,
+            first,
+            places: mine,
+        };
+        one(pattern, table, here, from, out);
+        at = end;
+        first += own.groups;
+        left = rest;
+        from = second;
+        end = record_end(pattern, at);
+    }
+    let last = Part {
         at,
-        stop: end,
-        first,
-        places: mine,
-    };
-    let behind = Part {
-        at: end,
         stop,
-        first: first + own.groups,
-        places: rest,
+        first,
+        places: left,
     };
-    one(pattern, table, here, base, out);
-    row(pattern, table, behind, false, second, next);
+    one(pattern, table, last, from, next);
 }
 
 // The four places of a repeat without an upper end over any byte, as a search has before and behind its pattern.

@@ -1,12 +1,13 @@
--- The cycle of building: `row` calls `one` for each record, `one` what its kind needs, and those `row` again on the records inside.
--- The bytes between the two offsets fall.
+-- The cycle of building: `one` calls what the kind of a record needs, and those `one` again on the records inside. The bytes between the two offsets fall.
 use borrow.Author.Needs.{needs}
 use Prim.Native.Nat.{ℕ, _+_, _-_, _*_, _<_}
-use mathlib.Core.Path.{ap, _∙_}
+use mathlib.Core.Path.{subst, _∙_}
+use mathlib.Core.Bool.{Bool, true, false}
 use native.Mathlib.Omega.{arith}
-use Rattle.places.proofs.Entering.{entry-small, at-least-one}
-use Rattle.places.proofs.Building.{single, head-fits, head-row, head-alone}
-use Rattle.places.proofs.Records.{repeat-counting, counts-right, inner-ask, passes-ask, repeat-passes, nothing-to-lay, stop-laid, set-laid, group-one, group-two, group-laid, repeat-ask, repeat-laid, row-ask, row-laid, row-header, last-one, last-laid, more-counting, more-few, fork-sum, fork-one, fork-rest, fork-laid, chain-sum, chain-one, chain-rest, chain-laid}
+use Rattle.places.specs.Asked.{Several}
+use Rattle.places.proofs.Entering.{at-least-one}
+use Rattle.places.proofs.Building.{head-fits, head-one}
+use Rattle.places.proofs.Records.{Along, repeat-counting, counts-right, inner-ask, passes-ask, repeat-passes, nothing-to-lay, stop-laid, set-laid, group-one, group-two, group-laid, repeat-ask, repeat-laid, row-ask, row-laid, row-header, last-one, more-counting, more-few, fork-sum, fork-one, fork-rest, fork-fits, chain-sum, chain-one, chain-rest, along-all, along-chain, along-fork, along-last}
 use borrow.Fn.Kinds.{In}
 use borrow.Fn.PlainCycle.{Measures, is, falls, and}
 use Rattle.places.proofs.chained.Reads as chained
@@ -33,6 +34,7 @@ use Rattle.places.proofs.inner_start.Reads as inner-start-reads
 use Rattle.places.proofs.optional_passes.Reads as optional-passes-reads
 use Rattle.places.proofs.passes.Reads as passes-reads
 use Rattle.places.proofs.put.Reads as put-reads
+use Rattle.places.proofs.record_end.Reads as record-end-reads
 use Rattle.records.proofs.number_at.Reads as number-at-reads
 use Rattle.places.proofs.+chained+forked+headed+one+repeated+row.{statement}
 use Rattle.places.proofs.+chained+forked+headed+one+repeated+row.Tie.{close}
@@ -44,7 +46,7 @@ abbrev μ-forked : Measures 2 forked-kinds.ps ℕ
 μ-forked κs a = 4 * (a .1 .1 .0 .stop - a .1 .1 .0 .at) + 1
 
 abbrev μ-headed : Measures 2 headed-kinds.ps ℕ
-μ-headed κs a = 4 * (a .1 .1 .0 .stop - a .1 .1 .0 .at) + 3
+μ-headed κs a = 4 * (a .1 .1 .0 .stop - a .1 .1 .0 .at) + 1
 
 abbrev μ-one : Measures 2 one-kinds.ps ℕ
 μ-one κs a = 4 * (a .1 .1 .0 .stop - a .1 .1 .0 .at)
@@ -92,167 +94,258 @@ row-at t = and 2 row-kinds.ps (is 2 row-kinds.ps μ-row t) row.Pre
 abbrev row-below : ℕ → In 2 row-kinds.ps
 row-below t = and 2 row-kinds.ps (falls 2 row-kinds.ps _<_ μ-row t) row.Pre
 
+abbrev chained-Inv-loop : chained-lts.InvT-loop
+chained-Inv-loop pattern table₀ base next stop at₀ first₀ left₀ from₀ end₀ table at first left from end =
+    Along pattern at₀ stop false from₀ next first₀ left₀ table₀ at end from first left table
+
+abbrev chained-μ-loop : chained-lts.MeasureT-loop
+chained-μ-loop pattern table₀ base next stop at₀ first₀ left₀ from₀ end₀ table at first left from end = stop - at
+
 abbrev chained-calls : ℕ → chained-lts.Claims
-chained-calls t = (count-reads.Asked, count-reads.Learnt, entered-reads.Asked, entered-reads.Learnt, one-below t, one.Post, row-below t, row.Post)
+chained-calls t = (record-end-reads.Asked, record-end-reads.Learnt, count-reads.Asked, count-reads.Learnt, entered-reads.Asked, entered-reads.Learnt, one-below t, one.Post)
 
-chained-count-requires : (t : ℕ) → chained-lts.Need-count-requires (chained-calls t) (chained-at t) chained.Post
-chained-count-requires t c κs =
+chained-record-end-requires : (t : ℕ) → chained-lts.Need-record-end-requires (chained-calls t) (chained-at t) chained.Post chained-Inv-loop chained-μ-loop
+chained-record-end-requires t c κs =
     let the-pre = c .before .before .pre in
-    more-counting (the-pre .1 .1 .0 .is) (the-pre .1 .1 .0 .not-last) (the-pre .1 .0)
+    (omega (arith, row-header (the-pre .1 .0), the-pre .1 .0 .ends), the-pre .1 .0 .short)
 
-chained-add-second : (t : ℕ) → chained-lts.Need-add-second (chained-calls t) (chained-at t) chained.Post
+chained-loop-holds : (t : ℕ) → chained-lts.Need-loop-holds (chained-calls t) (chained-at t) chained.Post chained-Inv-loop chained-μ-loop
+chained-loop-holds t c =
+    let the-args = c .before .before .before .args in
+    let the-pre = c .before .before .before .pre in
+    let the-record-end = c .record-end in
+    along-all (the-args .table .now) (the-pre .1 .0) (the-record-end .ensures)
+
+chained-count-requires : (t : ℕ) → chained-lts.Need-count-requires (chained-calls t) (chained-at t) chained.Post chained-Inv-loop chained-μ-loop
+chained-count-requires t c κs =
+    let the-loop = c .before .loop in
+    let the-loop-test = c .loop-test in
+    more-counting (the-loop .inv .end-is) (the-loop-test .taken) (the-loop .inv .row)
+
+chained-add-second : (t : ℕ) → chained-lts.Need-add-second (chained-calls t) (chained-at t) chained.Post chained-Inv-loop chained-μ-loop
 chained-add-second t c =
-    let the-pre = c .before .before .before .pre in
+    let the-loop = c .before .before .loop in
+    let the-loop-test = c .before .loop-test in
     let the-count = c .count in
-    omega (arith, (the-pre .1 .0) .room, chain-sum (the-pre .1 .1 .0 .is) (the-pre .1 .1 .0 .not-last) (the-count .ensures) (the-pre .1 .0))
+    omega (arith, the-loop .inv .row .room, chain-sum (the-loop .inv .end-is) (the-loop-test .taken) (the-count .ensures) (the-loop .inv .row))
 
-chained-sub-rest : (t : ℕ) → chained-lts.Need-sub-rest (chained-calls t) (chained-at t) chained.Post
+chained-sub-rest : (t : ℕ) → chained-lts.Need-sub-rest (chained-calls t) (chained-at t) chained.Post chained-Inv-loop chained-μ-loop
 chained-sub-rest t c =
-    let the-pre = c .before .before .before .pre in
+    let the-loop = c .before .before .loop in
+    let the-loop-test = c .before .loop-test in
     let the-count = c .count in
-    omega (arith, chain-sum (the-pre .1 .1 .0 .is) (the-pre .1 .1 .0 .not-last) (the-count .ensures) (the-pre .1 .0))
+    omega (arith, the-loop .inv .row .room, chain-sum (the-loop .inv .end-is) (the-loop-test .taken) (the-count .ensures) (the-loop .inv .row))
 
-chained-entered-requires : (t : ℕ) → chained-lts.Need-entered-requires (chained-calls t) (chained-at t) chained.Post
+chained-entered-requires : (t : ℕ) → chained-lts.Need-entered-requires (chained-calls t) (chained-at t) chained.Post chained-Inv-loop chained-μ-loop
 chained-entered-requires t c κs = search needs
 
-chained-add-t18 : (t : ℕ) → chained-lts.Need-add-t18 (chained-calls t) (chained-at t) chained.Post
-chained-add-t18 t c =
-    let the-pre = c .before .before .before .before .before .pre in
-    let the-count = c .before .before .count in
-    omega (arith, more-few (the-pre .1 .1 .0 .is) (the-pre .1 .1 .0 .not-last) (the-count .ensures) (the-pre .1 .0))
-
-chained-one-requires : (t : ℕ) → chained-lts.Need-one-requires (chained-calls t) (chained-at t) chained.Post
+chained-one-requires : (t : ℕ) → chained-lts.Need-one-requires (chained-calls t) (chained-at t) chained.Post chained-Inv-loop chained-μ-loop
 chained-one-requires t c κs =
-    let the-pre = c .before .before .before .before .before .before .pre in
-    let the-count = c .before .before .before .count in
-    let the-entered = c .before .before .entered in
-    (omega (arith, the-pre .0, row-header (the-pre .1 .0), the-pre .1 .1 .0 .is), (chain-one (the-pre .1 .1 .0 .is) (the-pre .1 .1 .0 .not-last) (the-count .ensures) (the-entered .result) (the-entered .ensures) (the-pre .1 .0), (the-pre .1 .1 .1)))
+    let the-pre = c .before .before .before .before .before .before .before .before .pre in
+    let the-loop = c .before .before .before .before .loop in
+    let the-loop-test = c .before .before .before .loop-test in
+    let the-count = c .before .before .count in
+    let the-entered = c .before .entered in
+    (omega (arith, the-pre .0, the-loop .inv .passed, the-loop .inv .end-is, row-header (the-loop .inv .row)), (chain-one (the-loop .inv .end-is) (the-loop-test .taken) (the-count .ensures) (the-entered .result) (the-entered .ensures) (the-loop .inv .row), omega (arith, the-loop .inv .same-length, the-pre .1 .1)))
 
-chained-row-requires : (t : ℕ) → chained-lts.Need-row-requires (chained-calls t) (chained-at t) chained.Post
-chained-row-requires t c κs =
-    let the-pre = c .before .before .before .before .before .before .before .before .before .before .pre in
+chained-add-first : (t : ℕ) → chained-lts.Need-add-first (chained-calls t) (chained-at t) chained.Post chained-Inv-loop chained-μ-loop
+chained-add-first t c =
+    let the-loop = c .before .before .before .before .before .before .before .before .loop in
+    let the-loop-test = c .before .before .before .before .before .before .before .loop-test in
+    let the-count = c .before .before .before .before .before .before .count in
+    omega (arith, more-few (the-loop .inv .end-is) (the-loop-test .taken) (the-count .ensures) (the-loop .inv .row))
+
+chained-record-end-requires-2 : (t : ℕ) → chained-lts.Need-record-end-requires-2 (chained-calls t) (chained-at t) chained.Post chained-Inv-loop chained-μ-loop
+chained-record-end-requires-2 t c κs =
+    let the-loop = c .before .before .before .before .before .before .before .before .loop in
+    let the-loop-test = c .before .before .before .before .before .before .before .loop-test in
+    let the-count = c .before .before .before .before .before .before .count in
+    (omega (arith, row-header (chain-rest (the-loop .inv .end-is) (the-loop-test .taken) (the-count .ensures) (the-loop .inv .row)), the-loop .inv .row .ends), the-loop .inv .row .short)
+
+chained-loop-less : (t : ℕ) → chained-lts.Need-loop-less (chained-calls t) (chained-at t) chained.Post chained-Inv-loop chained-μ-loop
+chained-loop-less t c =
+    let the-loop = c .before .before .before .before .before .before .before .before .before .loop in
+    omega (arith, the-loop .inv .end-is, row-header (the-loop .inv .row))
+
+chained-loop-again : (t : ℕ) → chained-lts.Need-loop-again (chained-calls t) (chained-at t) chained.Post chained-Inv-loop chained-μ-loop
+chained-loop-again t c =
+    let the-loop = c .before .before .before .before .before .before .before .before .before .loop in
+    let the-loop-test = c .before .before .before .before .before .before .before .before .loop-test in
     let the-count = c .before .before .before .before .before .before .before .count in
-    let the-one = c .before .before .before .one in
-    (omega (arith, the-pre .0, row-header (the-pre .1 .0), the-pre .1 .1 .0 .is), (chain-rest (the-pre .1 .1 .0 .is) (the-pre .1 .1 .0 .not-last) (the-count .ensures) (the-pre .1 .0), omega (arith, the-one .ensures .kept .same-length, (the-pre .1 .1 .1))))
+    let the-entered = c .before .before .before .before .before .before .entered in
+    let the-one = c .before .before .before .before .one in
+    let the-record-end2 = c .record-end2 in
+    along-chain (the-loop .inv) (the-loop-test .taken) (the-count .ensures) (the-entered .ensures) (the-one .ensures) (the-record-end2 .ensures)
 
-chained-same-length : (t : ℕ) → chained-lts.Need-same-length (chained-calls t) (chained-at t) chained.Post
+chained-one-requires-2 : (t : ℕ) → chained-lts.Need-one-requires-2 (chained-calls t) (chained-at t) chained.Post chained-Inv-loop chained-μ-loop
+chained-one-requires-2 t c κs =
+    let the-pre = c .before .before .before .before .before .before .pre in
+    let the-loop = c .before .before .loop in
+    let the-loop-test = c .before .loop-test in
+    (omega (arith, the-pre .0, the-loop .inv .passed), (last-one (the-loop .inv .end-is) (the-loop-test .left) (the-loop .inv .row), omega (arith, the-loop .inv .same-length, the-pre .1 .1)))
+
+chained-same-length : (t : ℕ) → chained-lts.Need-same-length (chained-calls t) (chained-at t) chained.Post chained-Inv-loop chained-μ-loop
 chained-same-length t c =
-    let the-row = c .before .before .row in
-    let the-one = c .before .before .before .before .before .before .one in
-    the-row .ensures .kept .same-length ∙ the-one .ensures .kept .same-length
+    let the-one2 = c .before .before .one2 in
+    let the-loop = c .before .before .before .before .before .loop in
+    the-one2 .ensures .kept .same-length ∙ the-loop .inv .same-length
 
-chained-returns : (t : ℕ) → chained-lts.Need-returns (chained-calls t) (chained-at t) chained.Post
+chained-returns : (t : ℕ) → chained-lts.Need-returns (chained-calls t) (chained-at t) chained.Post chained-Inv-loop chained-μ-loop
 chained-returns t c =
-    let the-pre = c .before .before .before .before .before .before .before .before .before .before .before .before .before .pre in
-    let the-count = c .before .before .before .before .before .before .before .before .before .before .count in
-    let the-entered = c .before .before .before .before .before .before .before .before .before .entered in
-    let the-one = c .before .before .before .before .before .before .one in
-    let the-row = c .before .before .row in
-    chain-laid (the-pre .1 .1 .0 .is) (the-pre .1 .1 .0 .not-last) (the-count .ensures) (the-entered .ensures) (the-pre .1 .0) (the-one .ensures) (the-row .ensures)
+    let the-loop = c .before .before .before .before .before .loop in
+    let the-loop-test = c .before .before .before .before .loop-test in
+    let the-one2 = c .before .before .one2 in
+    along-last (the-loop .inv) (the-loop-test .left) (the-one2 .ensures)
+
+abbrev forked-Inv-loop : forked-lts.InvT-loop
+forked-Inv-loop pattern table₀ base next stop at₀ first₀ left₀ from₀ end₀ table at first left from end =
+    Along pattern at₀ stop true from₀ next first₀ left₀ table₀ at end from first left table
+
+abbrev forked-μ-loop : forked-lts.MeasureT-loop
+forked-μ-loop pattern table₀ base next stop at₀ first₀ left₀ from₀ end₀ table at first left from end = stop - at
 
 abbrev forked-calls : ℕ → forked-lts.Claims
-forked-calls t = (count-reads.Asked, count-reads.Learnt, entered-reads.Asked, entered-reads.Learnt, put-reads.Asked, put-reads.Learnt, one-below t, one.Post, row-below t, row.Post)
+forked-calls t = (record-end-reads.Asked, record-end-reads.Learnt, count-reads.Asked, count-reads.Learnt, entered-reads.Asked, entered-reads.Learnt, put-reads.Asked, put-reads.Learnt, one-below t, one.Post)
 
-forked-count-requires : (t : ℕ) → forked-lts.Need-count-requires (forked-calls t) (forked-at t) forked.Post
-forked-count-requires t c κs =
+forked-record-end-requires : (t : ℕ) → forked-lts.Need-record-end-requires (forked-calls t) (forked-at t) forked.Post forked-Inv-loop forked-μ-loop
+forked-record-end-requires t c κs =
     let the-pre = c .before .before .pre in
-    more-counting (the-pre .1 .1 .0 .is) (the-pre .1 .1 .0 .not-last) (the-pre .1 .0)
+    (omega (arith, row-header (the-pre .1 .0), the-pre .1 .0 .ends), the-pre .1 .0 .short)
 
-forked-add-second : (t : ℕ) → forked-lts.Need-add-second (forked-calls t) (forked-at t) forked.Post
+forked-loop-holds : (t : ℕ) → forked-lts.Need-loop-holds (forked-calls t) (forked-at t) forked.Post forked-Inv-loop forked-μ-loop
+forked-loop-holds t c =
+    let the-args = c .before .before .before .args in
+    let the-pre = c .before .before .before .pre in
+    let the-record-end = c .record-end in
+    along-all (the-args .table .now) (the-pre .1 .0) (the-record-end .ensures)
+
+forked-count-requires : (t : ℕ) → forked-lts.Need-count-requires (forked-calls t) (forked-at t) forked.Post forked-Inv-loop forked-μ-loop
+forked-count-requires t c κs =
+    let the-loop = c .before .loop in
+    let the-loop-test = c .loop-test in
+    more-counting (the-loop .inv .end-is) (the-loop-test .taken) (the-loop .inv .row)
+
+forked-add-second : (t : ℕ) → forked-lts.Need-add-second (forked-calls t) (forked-at t) forked.Post forked-Inv-loop forked-μ-loop
 forked-add-second t c =
-    let the-pre = c .before .before .before .pre in
+    let the-loop = c .before .before .loop in
+    let the-loop-test = c .before .loop-test in
     let the-count = c .count in
-    omega (arith, (the-pre .1 .0) .room, fork-sum (the-pre .1 .1 .0 .is) (the-pre .1 .1 .0 .not-last) (the-count .ensures) (the-pre .1 .0))
+    omega (arith, the-loop .inv .row .room, fork-sum (the-loop .inv .end-is) (the-loop-test .taken) (the-count .ensures) (the-loop .inv .row))
 
-forked-add-second-2 : (t : ℕ) → forked-lts.Need-add-second-2 (forked-calls t) (forked-at t) forked.Post
+forked-add-second-2 : (t : ℕ) → forked-lts.Need-add-second-2 (forked-calls t) (forked-at t) forked.Post forked-Inv-loop forked-μ-loop
 forked-add-second-2 t c =
-    let the-pre = c .before .before .before .pre in
+    let the-loop = c .before .before .loop in
+    let the-loop-test = c .before .loop-test in
     let the-count = c .count in
-    omega (arith, (the-pre .1 .0) .room, fork-sum (the-pre .1 .1 .0 .is) (the-pre .1 .1 .0 .not-last) (the-count .ensures) (the-pre .1 .0))
+    omega (arith, the-loop .inv .row .room, fork-sum (the-loop .inv .end-is) (the-loop-test .taken) (the-count .ensures) (the-loop .inv .row))
 
-forked-sub-rest : (t : ℕ) → forked-lts.Need-sub-rest (forked-calls t) (forked-at t) forked.Post
+forked-sub-rest : (t : ℕ) → forked-lts.Need-sub-rest (forked-calls t) (forked-at t) forked.Post forked-Inv-loop forked-μ-loop
 forked-sub-rest t c =
-    let the-pre = c .before .before .before .pre in
+    let the-loop = c .before .before .loop in
+    let the-loop-test = c .before .loop-test in
     let the-count = c .count in
-    omega (arith, fork-sum (the-pre .1 .1 .0 .is) (the-pre .1 .1 .0 .not-last) (the-count .ensures) (the-pre .1 .0))
+    omega (arith, the-loop .inv .row .room, fork-sum (the-loop .inv .end-is) (the-loop-test .taken) (the-count .ensures) (the-loop .inv .row))
 
-forked-sub-rest-2 : (t : ℕ) → forked-lts.Need-sub-rest-2 (forked-calls t) (forked-at t) forked.Post
+forked-sub-rest-2 : (t : ℕ) → forked-lts.Need-sub-rest-2 (forked-calls t) (forked-at t) forked.Post forked-Inv-loop forked-μ-loop
 forked-sub-rest-2 t c =
-    let the-pre = c .before .before .before .pre in
+    let the-loop = c .before .before .loop in
+    let the-loop-test = c .before .loop-test in
     let the-count = c .count in
-    omega (arith, fork-sum (the-pre .1 .1 .0 .is) (the-pre .1 .1 .0 .not-last) (the-count .ensures) (the-pre .1 .0))
+    omega (arith, the-loop .inv .row .room, fork-sum (the-loop .inv .end-is) (the-loop-test .taken) (the-count .ensures) (the-loop .inv .row))
 
-forked-add-entered : (t : ℕ) → forked-lts.Need-add-entered (forked-calls t) (forked-at t) forked.Post
+forked-add-entered : (t : ℕ) → forked-lts.Need-add-entered (forked-calls t) (forked-at t) forked.Post forked-Inv-loop forked-μ-loop
 forked-add-entered t c =
-    let the-pre = c .before .before .before .pre in
-    omega (arith, (the-pre .1 .0) .room)
+    let the-loop = c .before .before .loop in
+    omega (arith, the-loop .inv .row .room)
 
-forked-entered-requires : (t : ℕ) → forked-lts.Need-entered-requires (forked-calls t) (forked-at t) forked.Post
+forked-entered-requires : (t : ℕ) → forked-lts.Need-entered-requires (forked-calls t) (forked-at t) forked.Post forked-Inv-loop forked-μ-loop
 forked-entered-requires t c κs = search needs
 
-forked-entered-requires-2 : (t : ℕ) → forked-lts.Need-entered-requires-2 (forked-calls t) (forked-at t) forked.Post
+forked-entered-requires-2 : (t : ℕ) → forked-lts.Need-entered-requires-2 (forked-calls t) (forked-at t) forked.Post forked-Inv-loop forked-μ-loop
 forked-entered-requires-2 t c κs = search needs
 
-forked-add-one : (t : ℕ) → forked-lts.Need-add-one (forked-calls t) (forked-at t) forked.Post
-forked-add-one t c =
-    let the-pre = c .before .before .before .before .before .before .pre in
-    let the-count = c .before .before .before .count in
-    omega (arith, more-few (the-pre .1 .1 .0 .is) (the-pre .1 .1 .0 .not-last) (the-count .ensures) (the-pre .1 .0))
-
-forked-put-requires : (t : ℕ) → forked-lts.Need-put-requires (forked-calls t) (forked-at t) forked.Post
+forked-put-requires : (t : ℕ) → forked-lts.Need-put-requires (forked-calls t) (forked-at t) forked.Post forked-Inv-loop forked-μ-loop
 forked-put-requires t c κs =
-    let the-pre = c .before .before .before .before .before .before .before .pre in
-    let the-count = c .before .before .before .before .count in
-    let the-entered = c .before .before .before .entered in
-    let the-args = c .before .before .before .before .before .before .before .args in
-    let the-entered2 = c .before .before .entered2 in
-    record { room = omega (arith, (the-pre .1 .0) .room, fork-sum (the-pre .1 .1 .0 .is) (the-pre .1 .1 .0 .not-last) (the-count .ensures) (the-pre .1 .0), (the-pre .1 .1 .1)); next-fits = omega (arith, the-entered .ensures, entry-small (the-count .result .places) (the-args .base + 1) (the-args .next) {most = 65535} (omega (arith, (the-pre .1 .0) .room)) (omega (arith, (the-pre .1 .0) .follows))); a-fits = omega (arith, the-entered2 .ensures, entry-small (the-args .part .places - 1 - the-count .result .places) (the-args .base + 1 + the-count .result .places) (the-args .next) {most = 65535} (omega (arith, (the-pre .1 .0) .room, fork-sum (the-pre .1 .1 .0 .is) (the-pre .1 .1 .0 .not-last) (the-count .ensures) (the-pre .1 .0))) (omega (arith, (the-pre .1 .0) .follows))); n-fits = omega arith }
+    let the-loop = c .before .before .before .before .before .loop in
+    let the-loop-test = c .before .before .before .before .loop-test in
+    let the-count = c .before .before .before .count in
+    let the-entered = c .before .before .entered in
+    let the-entered2 = c .entered2 in
+    let the-pre = c .before .before .before .before .before .before .before .before .before .pre in
+    fork-fits (the-loop .inv) (the-loop-test .taken) (the-count .ensures) (the-entered .ensures) (the-entered2 .ensures) (the-pre .1 .1)
 
-forked-add-one-2 : (t : ℕ) → forked-lts.Need-add-one-2 (forked-calls t) (forked-at t) forked.Post
-forked-add-one-2 t c =
-    let the-pre = c .before .before .before .before .before .before .before .before .before .before .before .pre in
-    omega (arith, (the-pre .1 .0) .room)
+forked-add-one : (t : ℕ) → forked-lts.Need-add-one (forked-calls t) (forked-at t) forked.Post forked-Inv-loop forked-μ-loop
+forked-add-one t c =
+    let the-loop = c .before .before .before .before .before .before .before .before .before .loop in
+    omega (arith, the-loop .inv .row .room)
 
-forked-one-requires : (t : ℕ) → forked-lts.Need-one-requires (forked-calls t) (forked-at t) forked.Post
+forked-one-requires : (t : ℕ) → forked-lts.Need-one-requires (forked-calls t) (forked-at t) forked.Post forked-Inv-loop forked-μ-loop
 forked-one-requires t c κs =
-    let the-pre = c .before .before .before .before .before .before .before .before .before .before .before .pre in
-    let the-count = c .before .before .before .before .before .before .before .before .count in
+    let the-pre = c .before .before .before .before .before .before .before .before .before .before .before .before .before .pre in
+    let the-loop = c .before .before .before .before .before .before .before .before .before .loop in
+    let the-loop-test = c .before .before .before .before .before .before .before .before .loop-test in
+    let the-count = c .before .before .before .before .before .before .before .count in
     let the-put = c .before .before .before .put in
-    (omega (arith, the-pre .0, row-header (the-pre .1 .0), the-pre .1 .1 .0 .is), (fork-one (the-pre .1 .1 .0 .is) (the-pre .1 .1 .0 .not-last) (the-count .ensures) (the-pre .1 .0), omega (arith, the-put .ensures .kept .same-length, (the-pre .1 .1 .1))))
+    (omega (arith, the-pre .0, the-loop .inv .passed, the-loop .inv .end-is, row-header (the-loop .inv .row)), (fork-one (the-loop .inv .end-is) (the-loop-test .taken) (the-count .ensures) (the-loop .inv .row), omega (arith, the-put .ensures .kept .same-length, the-loop .inv .same-length, the-pre .1 .1)))
 
-forked-row-requires : (t : ℕ) → forked-lts.Need-row-requires (forked-calls t) (forked-at t) forked.Post
-forked-row-requires t c κs =
-    let the-pre = c .before .before .before .before .before .before .before .before .before .before .before .before .before .before .before .pre in
+forked-add-first : (t : ℕ) → forked-lts.Need-add-first (forked-calls t) (forked-at t) forked.Post forked-Inv-loop forked-μ-loop
+forked-add-first t c =
+    let the-loop = c .before .before .before .before .before .before .before .before .before .before .before .before .before .loop in
+    let the-loop-test = c .before .before .before .before .before .before .before .before .before .before .before .before .loop-test in
+    let the-count = c .before .before .before .before .before .before .before .before .before .before .before .count in
+    omega (arith, more-few (the-loop .inv .end-is) (the-loop-test .taken) (the-count .ensures) (the-loop .inv .row))
+
+forked-record-end-requires-2 : (t : ℕ) → forked-lts.Need-record-end-requires-2 (forked-calls t) (forked-at t) forked.Post forked-Inv-loop forked-μ-loop
+forked-record-end-requires-2 t c κs =
+    let the-loop = c .before .before .before .before .before .before .before .before .before .before .before .before .before .loop in
+    let the-loop-test = c .before .before .before .before .before .before .before .before .before .before .before .before .loop-test in
+    let the-count = c .before .before .before .before .before .before .before .before .before .before .before .count in
+    (omega (arith, row-header (fork-rest (the-loop .inv .end-is) (the-loop-test .taken) (the-count .ensures) (the-loop .inv .row)), the-loop .inv .row .ends), the-loop .inv .row .short)
+
+forked-loop-less : (t : ℕ) → forked-lts.Need-loop-less (forked-calls t) (forked-at t) forked.Post forked-Inv-loop forked-μ-loop
+forked-loop-less t c =
+    let the-loop = c .before .before .before .before .before .before .before .before .before .before .before .before .before .before .loop in
+    omega (arith, the-loop .inv .end-is, row-header (the-loop .inv .row))
+
+forked-loop-again : (t : ℕ) → forked-lts.Need-loop-again (forked-calls t) (forked-at t) forked.Post forked-Inv-loop forked-μ-loop
+forked-loop-again t c =
+    let the-loop = c .before .before .before .before .before .before .before .before .before .before .before .before .before .before .loop in
+    let the-loop-test = c .before .before .before .before .before .before .before .before .before .before .before .before .before .loop-test in
     let the-count = c .before .before .before .before .before .before .before .before .before .before .before .before .count in
-    let the-one = c .before .before .before .one in
-    let the-put = c .before .before .before .before .before .before .before .put in
-    (omega (arith, the-pre .0, row-header (the-pre .1 .0), the-pre .1 .1 .0 .is), (fork-rest (the-pre .1 .1 .0 .is) (the-pre .1 .1 .0 .not-last) (the-count .ensures) (the-pre .1 .0), omega (arith, the-one .ensures .kept .same-length, the-put .ensures .kept .same-length, (the-pre .1 .1 .1))))
+    let the-entered = c .before .before .before .before .before .before .before .before .before .before .before .entered in
+    let the-entered2 = c .before .before .before .before .before .before .before .before .before .entered2 in
+    let the-put = c .before .before .before .before .before .before .before .before .put in
+    let the-one = c .before .before .before .before .one in
+    let the-record-end2 = c .record-end2 in
+    along-fork (the-loop .inv) (the-loop-test .taken) (the-count .ensures) (the-entered .ensures) (the-entered2 .ensures) (the-put .ensures) (the-one .ensures) (the-record-end2 .ensures)
 
-forked-same-length : (t : ℕ) → forked-lts.Need-same-length (forked-calls t) (forked-at t) forked.Post
+forked-one-requires-2 : (t : ℕ) → forked-lts.Need-one-requires-2 (forked-calls t) (forked-at t) forked.Post forked-Inv-loop forked-μ-loop
+forked-one-requires-2 t c κs =
+    let the-pre = c .before .before .before .before .before .before .pre in
+    let the-loop = c .before .before .loop in
+    let the-loop-test = c .before .loop-test in
+    (omega (arith, the-pre .0, the-loop .inv .passed), (last-one (the-loop .inv .end-is) (the-loop-test .left) (the-loop .inv .row), omega (arith, the-loop .inv .same-length, the-pre .1 .1)))
+
+forked-same-length : (t : ℕ) → forked-lts.Need-same-length (forked-calls t) (forked-at t) forked.Post forked-Inv-loop forked-μ-loop
 forked-same-length t c =
-    let the-row = c .before .before .row in
-    let the-one = c .before .before .before .before .before .before .one in
-    let the-put = c .before .before .before .before .before .before .before .before .before .before .put in
-    the-row .ensures .kept .same-length ∙ the-one .ensures .kept .same-length ∙ the-put .ensures .kept .same-length
+    let the-one2 = c .before .before .one2 in
+    let the-loop = c .before .before .before .before .before .loop in
+    the-one2 .ensures .kept .same-length ∙ the-loop .inv .same-length
 
-forked-returns : (t : ℕ) → forked-lts.Need-returns (forked-calls t) (forked-at t) forked.Post
+forked-returns : (t : ℕ) → forked-lts.Need-returns (forked-calls t) (forked-at t) forked.Post forked-Inv-loop forked-μ-loop
 forked-returns t c =
-    let the-pre = c .before .before .before .before .before .before .before .before .before .before .before .before .before .before .before .before .before .before .pre in
-    let the-count = c .before .before .before .before .before .before .before .before .before .before .before .before .before .before .before .count in
-    let the-entered = c .before .before .before .before .before .before .before .before .before .before .before .before .before .before .entered in
-    let the-entered2 = c .before .before .before .before .before .before .before .before .before .before .before .before .before .entered2 in
-    let the-put = c .before .before .before .before .before .before .before .before .before .before .put in
-    let the-one = c .before .before .before .before .before .before .one in
-    let the-row = c .before .before .row in
-    fork-laid (the-pre .1 .1 .0 .is) (the-pre .1 .1 .0 .not-last) (the-count .ensures) (the-entered .ensures) (the-entered2 .ensures) (the-pre .1 .0) (the-put .ensures) (the-one .ensures) (the-row .ensures)
+    let the-loop = c .before .before .before .before .before .loop in
+    let the-loop-test = c .before .before .before .before .loop-test in
+    let the-one2 = c .before .before .one2 in
+    along-last (the-loop .inv) (the-loop-test .left) (the-one2 .ensures)
 
 abbrev headed-calls : ℕ → headed-lts.Claims
-headed-calls t = (entered-reads.Asked, entered-reads.Learnt, put-reads.Asked, put-reads.Learnt, row-below t, row.Post)
+headed-calls t = (entered-reads.Asked, entered-reads.Learnt, put-reads.Asked, put-reads.Learnt, one-below t, one.Post)
 
 headed-add-entered : (t : ℕ) → headed-lts.Need-add-entered (headed-calls t) (headed-at t) headed.Post
 headed-add-entered t c =
     let the-pre = c .before .before .before .pre in
-    omega (arith, (the-pre .1 .0) .room)
+    omega (arith, the-pre .1 .0 .room)
 
 headed-entered-requires : (t : ℕ) → headed-lts.Need-entered-requires (headed-calls t) (headed-at t) headed.Post
 headed-entered-requires t c κs = search needs
@@ -263,43 +356,30 @@ headed-put-requires t c κs =
     let the-entered = c .entered in
     head-fits (the-pre .1 .0) (the-pre .1 .1 .0) (the-pre .1 .1 .1) (the-entered .ensures)
 
-headed-add-row : (t : ℕ) → headed-lts.Need-add-row (headed-calls t) (headed-at t) headed.Post
-headed-add-row t c =
-    let the-pre = c .before .before .before .before .before .before .before .before .before .pre in
-    omega (arith, (the-pre .1 .0) .room)
+headed-add-one : (t : ℕ) → headed-lts.Need-add-one (headed-calls t) (headed-at t) headed.Post
+headed-add-one t c =
+    let the-pre = c .before .before .before .before .before .before .before .before .pre in
+    omega (arith, the-pre .1 .0 .room)
 
-headed-row-requires : (t : ℕ) → headed-lts.Need-row-requires (headed-calls t) (headed-at t) headed.Post
-headed-row-requires t c κs =
-    let the-pre = c .before .before .before .before .before .before .before .before .before .pre in
-    let the-put = c .before .before .before .before .put in
-    (omega (arith, the-pre .0), (single (the-pre .1 .0), omega (arith, the-put .ensures .kept .same-length, the-pre .1 .1 .1)))
+headed-one-requires : (t : ℕ) → headed-lts.Need-one-requires (headed-calls t) (headed-at t) headed.Post
+headed-one-requires t c κs =
+    let the-pre = c .before .before .before .before .before .before .before .before .pre in
+    let the-put = c .before .before .before .put in
+    (omega (arith, the-pre .0), (the-pre .1 .0, omega (arith, the-put .ensures .kept .same-length, the-pre .1 .1 .1)))
 
 headed-same-length : (t : ℕ) → headed-lts.Need-same-length (headed-calls t) (headed-at t) headed.Post
 headed-same-length t c =
-    let the-row = c .before .before .row in
-    let the-put = c .before .before .before .before .before .before .before .put in
-    the-row .ensures .kept .same-length ∙ the-put .ensures .kept .same-length
+    let the-one = c .before .before .one in
+    let the-put = c .before .before .before .before .before .before .put in
+    the-one .ensures .kept .same-length ∙ the-put .ensures .kept .same-length
 
 headed-returns : (t : ℕ) → headed-lts.Need-returns (headed-calls t) (headed-at t) headed.Post
 headed-returns t c =
-    let the-entered = c .before .before .before .before .before .before .before .before .entered in
-    let the-pre = c .before .before .before .before .before .before .before .before .before .before .before .before .pre in
-    let the-put = c .before .before .before .before .before .before .before .put in
-    let the-row = c .before .before .row in
-    head-row (the-entered .ensures) (the-pre .1 .1 .0) (the-put .ensures) (the-row .ensures)
-
-headed-same-length-2 : (t : ℕ) → headed-lts.Need-same-length-2 (headed-calls t) (headed-at t) headed.Post
-headed-same-length-2 t c =
-    let the-put = c .before .before .before .put in
-    the-put .ensures .kept .same-length
-
-headed-returns-2 : (t : ℕ) → headed-lts.Need-returns-2 (headed-calls t) (headed-at t) headed.Post
-headed-returns-2 t c =
-    let the-entered = c .before .before .before .before .entered in
-    let the-pre = c .before .before .before .before .before .before .before .before .pre in
-    let the-put = c .before .before .before .put in
-    let the-if1 = c .if1 in
-    head-alone (the-entered .ensures) (the-pre .1 .1 .0) (the-put .ensures) (the-if1 .left)
+    let the-entered = c .before .before .before .before .before .before .before .entered in
+    let the-pre = c .before .before .before .before .before .before .before .before .before .before .before .pre in
+    let the-put = c .before .before .before .before .before .before .put in
+    let the-one = c .before .before .one in
+    head-one (the-entered .ensures) (the-pre .1 .1 .0) (the-put .ensures) (the-one .ensures)
 
 abbrev one-calls : ℕ → one-lts.Claims
 one-calls t = (number-at-reads.Asked, number-at-reads.Learnt, put-reads.Asked, put-reads.Learnt, headed-below t, headed.Post, repeated-below t, repeated.Post, row-below t, row.Post)
@@ -587,102 +667,92 @@ repeated-returns t c =
     repeat-passes (the-number-at .ensures .0) (the-number-at2 .ensures .0) (the-number-at3 .ensures .0) (the-count .ensures) (the-inner-start .ensures) (the-optional-passes .ensures) (the-one .ensures) (the-passes .ensures)
 
 abbrev row-calls : ℕ → row-lts.Claims
-row-calls t = (number-at-reads.Asked, number-at-reads.Learnt, one-below t, one.Post, forked-below t, forked.Post, chained-below t, chained.Post)
-
-row-add-end : (t : ℕ) → row-lts.Need-add-end (row-calls t) (row-at t) row.Post
-row-add-end t c =
-    let the-pre = c .before .before .pre in
-    omega (arith, row-header (the-pre .1 .0), (the-pre .1 .0) .ends, (the-pre .1 .0) .short)
-
-row-number-at-requires : (t : ℕ) → row-lts.Need-number-at-requires (row-calls t) (row-at t) row.Post
-row-number-at-requires t c κs =
-    let the-pre = c .before .before .pre in
-    omega (arith, row-header (the-pre .1 .0), (the-pre .1 .0) .ends, (the-pre .1 .0) .short)
-
-row-add-end-2 : (t : ℕ) → row-lts.Need-add-end-2 (row-calls t) (row-at t) row.Post
-row-add-end-2 t c =
-    let the-number-at = c .number-at in
-    let the-pre = c .before .before .before .pre in
-    omega (arith, the-number-at .ensures .0, row-header (the-pre .1 .0), (the-pre .1 .0) .ends, (the-pre .1 .0) .short)
-
-row-one-requires : (t : ℕ) → row-lts.Need-one-requires (row-calls t) (row-at t) row.Post
-row-one-requires t c κs =
-    let the-pre = c .before .before .before .before .before .pre in
-    let the-number-at = c .before .before .number-at in
-    let the-args = c .before .before .before .before .before .args in
-    let the-if1 = c .before .if1 in
-    (omega (arith, the-pre .0, row-header (the-pre .1 .0), the-number-at .ensures .0), (last-one (ap (λ (k : ℕ). the-args .part .at + 4 + k) (the-number-at .ensures .0)) (the-if1 .taken) (the-pre .1 .0), the-pre .1 .1))
+row-calls t = (forked-below t, forked.Post, chained-below t, chained.Post)
 
 row-forked-requires : (t : ℕ) → row-lts.Need-forked-requires (row-calls t) (row-at t) row.Post
 row-forked-requires t c κs =
-    let the-pre = c .before .before .before .before .before .before .pre in
-    let the-if2 = c .before .if2 in
-    let the-args = c .before .before .before .before .before .before .args in
-    let the-number-at = c .before .before .before .number-at in
-    let the-if1 = c .before .before .if1 in
-    (omega (arith, the-pre .0), (rw (the-if2 .taken) at (the-pre .1 .0), (record { is = (ap (λ (k : ℕ). the-args .part .at + 4 + k) (the-number-at .ensures .0)); not-last = the-if1 .left }, the-pre .1 .1)))
+    let the-pre = c .before .before .before .before .pre in
+    let the-args = c .before .before .before .before .args in
+    let the-if1 = c .before .if1 in
+    (omega (arith, the-pre .0), (subst (λ (b : Bool). Several (the-args .pattern .now) (the-args .part .at) (the-args .part .stop) b (the-args .base) (the-args .next) (the-args .part .first) (the-args .part .places)) (the-if1 .taken) (the-pre .1 .0), the-pre .1 .1))
 
 row-chained-requires : (t : ℕ) → row-lts.Need-chained-requires (row-calls t) (row-at t) row.Post
 row-chained-requires t c κs =
-    let the-pre = c .before .before .before .before .before .before .pre in
-    let the-if2 = c .before .if2 in
-    let the-args = c .before .before .before .before .before .before .args in
-    let the-number-at = c .before .before .before .number-at in
-    let the-if1 = c .before .before .if1 in
-    (omega (arith, the-pre .0), (rw (the-if2 .left) at (the-pre .1 .0), (record { is = (ap (λ (k : ℕ). the-args .part .at + 4 + k) (the-number-at .ensures .0)); not-last = the-if1 .left }, the-pre .1 .1)))
+    let the-pre = c .before .before .before .before .pre in
+    let the-args = c .before .before .before .before .args in
+    let the-if1 = c .before .if1 in
+    (omega (arith, the-pre .0), (subst (λ (b : Bool). Several (the-args .pattern .now) (the-args .part .at) (the-args .part .stop) b (the-args .base) (the-args .next) (the-args .part .first) (the-args .part .places)) (the-if1 .left) (the-pre .1 .0), the-pre .1 .1))
 
 row-same-length : (t : ℕ) → row-lts.Need-same-length (row-calls t) (row-at t) row.Post
 row-same-length t c =
-    let the-one = c .before .before .one in
-    the-one .ensures .kept .same-length
-
-row-returns : (t : ℕ) → row-lts.Need-returns (row-calls t) (row-at t) row.Post
-row-returns t c =
-    let the-args = c .before .before .before .before .before .before .before .before .args in
-    let the-number-at = c .before .before .before .before .before .number-at in
-    let the-if1 = c .before .before .before .before .if1 in
-    let the-one = c .before .before .one in
-    last-laid (ap (λ (k : ℕ). the-args .part .at + 4 + k) (the-number-at .ensures .0)) (the-if1 .taken) (the-one .ensures)
-
-row-same-length-2 : (t : ℕ) → row-lts.Need-same-length-2 (row-calls t) (row-at t) row.Post
-row-same-length-2 t c =
     let the-forked = c .before .before .forked in
     the-forked .ensures .kept .same-length
 
-row-returns-2 : (t : ℕ) → row-lts.Need-returns-2 (row-calls t) (row-at t) row.Post
-row-returns-2 t c =
-    let the-if2 = c .before .before .before .before .if2 in
+row-returns : (t : ℕ) → row-lts.Need-returns (row-calls t) (row-at t) row.Post
+row-returns t c =
+    let the-if1 = c .before .before .before .before .if1 in
     let the-forked = c .before .before .forked in
-    rw (the-if2 .taken) (the-forked .ensures)
+    rw (the-if1 .taken) (the-forked .ensures)
 
-row-same-length-3 : (t : ℕ) → row-lts.Need-same-length-3 (row-calls t) (row-at t) row.Post
-row-same-length-3 t c =
+row-same-length-2 : (t : ℕ) → row-lts.Need-same-length-2 (row-calls t) (row-at t) row.Post
+row-same-length-2 t c =
     let the-chained = c .before .before .chained in
     the-chained .ensures .kept .same-length
 
-row-returns-3 : (t : ℕ) → row-lts.Need-returns-3 (row-calls t) (row-at t) row.Post
-row-returns-3 t c =
-    let the-if2 = c .before .before .before .before .if2 in
+row-returns-2 : (t : ℕ) → row-lts.Need-returns-2 (row-calls t) (row-at t) row.Post
+row-returns-2 t c =
+    let the-if1 = c .before .before .before .before .if1 in
     let the-chained = c .before .before .chained in
-    rw (the-if2 .left) (the-chained .ensures)
+    rw (the-if1 .left) (the-chained .ensures)
 
 pub +chained+forked+headed+one+repeated+row-spec : {M : Type 1} → statement M
 +chained+forked+headed+one+repeated+row-spec =
-    close μ-chained μ-forked μ-headed μ-one μ-repeated μ-row (λ t. chained-lts.spec (chained-calls t)
+    close μ-chained μ-forked μ-headed μ-one μ-repeated μ-row (λ t. chained-lts.spec (
+      record-end-reads.Asked,
+      record-end-reads.Learnt,
+      count-reads.Asked,
+      count-reads.Learnt,
+      entered-reads.Asked,
+      entered-reads.Learnt,
+      one-below t,
+      one.Post,
+    )
     (chained-at t)
     chained.Post
+    chained-Inv-loop
+    chained-μ-loop
+    (chained-record-end-requires t)
+    (chained-loop-holds t)
     (chained-count-requires t)
     (chained-add-second t)
     (chained-sub-rest t)
     (chained-entered-requires t)
-    (chained-add-t18 t)
     (chained-one-requires t)
-    (chained-row-requires t)
+    (chained-add-first t)
+    (chained-record-end-requires-2 t)
+    (chained-loop-less t)
+    (chained-loop-again t)
+    (chained-one-requires-2 t)
     (chained-same-length t)
     (chained-returns t))
-    (λ t. forked-lts.spec (forked-calls t)
+    (λ t. forked-lts.spec (
+      record-end-reads.Asked,
+      record-end-reads.Learnt,
+      count-reads.Asked,
+      count-reads.Learnt,
+      entered-reads.Asked,
+      entered-reads.Learnt,
+      put-reads.Asked,
+      put-reads.Learnt,
+      one-below t,
+      one.Post,
+    )
     (forked-at t)
     forked.Post
+    forked-Inv-loop
+    forked-μ-loop
+    (forked-record-end-requires t)
+    (forked-loop-holds t)
     (forked-count-requires t)
     (forked-add-second t)
     (forked-add-second-2 t)
@@ -691,26 +761,45 @@ pub +chained+forked+headed+one+repeated+row-spec : {M : Type 1} → statement M
     (forked-add-entered t)
     (forked-entered-requires t)
     (forked-entered-requires-2 t)
-    (forked-add-one t)
     (forked-put-requires t)
-    (forked-add-one-2 t)
+    (forked-add-one t)
     (forked-one-requires t)
-    (forked-row-requires t)
+    (forked-add-first t)
+    (forked-record-end-requires-2 t)
+    (forked-loop-less t)
+    (forked-loop-again t)
+    (forked-one-requires-2 t)
     (forked-same-length t)
     (forked-returns t))
-    (λ t. headed-lts.spec (headed-calls t)
+    (λ t. headed-lts.spec (
+      entered-reads.Asked,
+      entered-reads.Learnt,
+      put-reads.Asked,
+      put-reads.Learnt,
+      one-below t,
+      one.Post,
+    )
     (headed-at t)
     headed.Post
     (headed-add-entered t)
     (headed-entered-requires t)
     (headed-put-requires t)
-    (headed-add-row t)
-    (headed-row-requires t)
+    (headed-add-one t)
+    (headed-one-requires t)
     (headed-same-length t)
-    (headed-returns t)
-    (headed-same-length-2 t)
-    (headed-returns-2 t))
-    (λ t. one-lts.spec (one-calls t)
+    (headed-returns t))
+    (λ t. one-lts.spec (
+      number-at-reads.Asked,
+      number-at-reads.Learnt,
+      put-reads.Asked,
+      put-reads.Learnt,
+      headed-below t,
+      headed.Post,
+      repeated-below t,
+      repeated.Post,
+      row-below t,
+      row.Post,
+    )
     (one-at t)
     one.Post
     (one-add-number-at t)
@@ -739,7 +828,20 @@ pub +chained+forked+headed+one+repeated+row-spec : {M : Type 1} → statement M
     (one-returns-5 t)
     (one-same-length-5 t)
     (one-returns-6 t))
-    (λ t. repeated-lts.spec (repeated-calls t)
+    (λ t. repeated-lts.spec (
+      number-at-reads.Asked,
+      number-at-reads.Learnt,
+      count-reads.Asked,
+      count-reads.Learnt,
+      inner-start-reads.Asked,
+      inner-start-reads.Learnt,
+      one-below t,
+      one.Post,
+      optional-passes-reads.Asked,
+      optional-passes-reads.Learnt,
+      passes-reads.Asked,
+      passes-reads.Learnt,
+    )
     (repeated-at t)
     repeated.Post
     (repeated-add-at t)
@@ -756,18 +858,13 @@ pub +chained+forked+headed+one+repeated+row-spec : {M : Type 1} → statement M
     (repeated-passes-requires t)
     (repeated-same-length t)
     (repeated-returns t))
-    λ t. row-lts.spec (row-calls t)
+    λ t. row-lts.spec
+    (forked-below t, forked.Post, chained-below t, chained.Post)
     (row-at t)
     row.Post
-    (row-add-end t)
-    (row-number-at-requires t)
-    (row-add-end-2 t)
-    (row-one-requires t)
     (row-forked-requires t)
     (row-chained-requires t)
     (row-same-length t)
     (row-returns t)
     (row-same-length-2 t)
     (row-returns-2 t)
-    (row-same-length-3 t)
-    (row-returns-3 t)
