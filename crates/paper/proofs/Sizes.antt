@@ -89,11 +89,11 @@ length-lay (star mode first n e) base next =
     let end = base + 2 + size e in
     simp length-append (omega (arith, length-lay e (base + 2) end))
 
-size-musts : (k first n : ℕ) (e next : Core) → size (musts k first n e next) ≡ k * (1 + size e) + size next
+pub size-musts : (k first n : ℕ) (e next : Core) → size (musts k first n e next) ≡ k * (1 + size e) + size next
 size-musts zero first n e next = omega (arith, zero-mul (1 + size e))
 size-musts (suc k) first n e next = omega (arith, suc-mul k (1 + size e), size-musts k first n e next)
 
-size-maybes : (k : ℕ) (mode : Mode) (first n : ℕ) (e : Core) → size (maybes k mode first n e) ≡ k * (3 + size e)
+pub size-maybes : (k : ℕ) (mode : Mode) (first n : ℕ) (e : Core) → size (maybes k mode first n e) ≡ k * (3 + size e)
 size-maybes zero mode first n e = omega (arith, zero-mul (3 + size e))
 size-maybes (suc k) mode first n e = omega (arith, suc-mul k (3 + size e), size-maybes k mode first n e)
 

@@ -3,7 +3,7 @@ use Prim.Native.Nat.{ℕ, zero, suc, _+_, _*_, _≤_}
 use mathlib.Core.Path.{_≡_, refl, ap, _∙_}
 use mathlib.Core.Bool.{Bool, true, false}
 use mathlib.Core.List.{List, [], _∷_}
-use native.Mathlib.Nat.{suc-mul, zero-mul}
+use native.Mathlib.Nat.{zero-mul}
 use native.Mathlib.Omega.{arith}
 use Rattle.paper.specs.Pattern.{Mode, Pattern, Members, groups}
 use Rattle.paper.specs.Pattern.Members.{two, more}
@@ -12,17 +12,7 @@ use Rattle.pattern.specs.Walk.{passPlaces}
 use Rattle.places.specs.Standing.{rowPlaces, rowCore}
 use Rattle.places.specs.Asked.{optionalCore, passCore}
 use Rattle.paper.proofs.MemberList.{listOf}
-use Rattle.paper.proofs.Sizes.{size-written}
-
--- the places of passes that must be made, and of what comes then
-pub musts-size : (m first n : ℕ) (e next : Core) → size (musts m first n e next) ≡ m * (1 + size e) + size next
-musts-size zero first n e next = omega (arith, zero-mul (1 + size e))
-musts-size (suc m) first n e next = omega (arith, musts-size m first n e next, suc-mul m (1 + size e))
-
--- the places of optional passes
-pub maybes-size : (m : ℕ) (mode : Mode) (first n : ℕ) (e : Core) → size (maybes m mode first n e) ≡ m * (3 + size e)
-maybes-size zero mode first n e = omega (arith, zero-mul (3 + size e))
-maybes-size (suc m) mode first n e = omega (arith, maybes-size m mode first n e, suc-mul m (3 + size e))
+use Rattle.paper.proofs.Sizes.{size-written, size-musts, size-maybes}
 
 -- members in a row are written out as the sequence, or the alternation, of them
 pub row-chained : (ms : Members) (first : ℕ) → rowCore false (listOf ms) first ≡ chained ms first
@@ -56,10 +46,10 @@ optional-size : (endless : Bool) (may : ℕ) (mode : Mode) (first n : ℕ) (e : 
 optional-size true zero mode first n e once = omega (arith, zero-mul (3 + size e))
 optional-size true (suc zero) mode first n e once = omega arith
 optional-size true (suc (suc m)) mode first n e once = absurd (omega (arith, once refl))
-optional-size false m mode first n e once = ap size (optional-maybes m mode first n e) ∙ maybes-size m mode first n e
+optional-size false m mode first n e once = ap size (optional-maybes m mode first n e) ∙ size-maybes m mode first n e
 
 pub pass-size : (least : ℕ) (endless : Bool) (may : ℕ) (mode : Mode) (first n : ℕ) (e : Core) → (endless ≡ true → may ≤ 1)
     → size (passCore least endless may mode first n e) ≡ passPlaces least may (size e)
 pass-size least endless may mode first n e once =
-    musts-size least first n e (optionalCore endless may mode first n e)
+    size-musts least first n e (optionalCore endless may mode first n e)
     ∙ ap (λ (k : ℕ). least * (1 + size e) + k) (optional-size endless may mode first n e once)
