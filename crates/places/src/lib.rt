@@ -1,6 +1,7 @@
 // Building: the places of an accepted pattern into a lent table, four numbers a place (01, "The list machine", paragraph 1).
 use pattern::Kind;
 use pattern::Pattern;
+use pattern::PlaceKind;
 use records::number_at;
 ghost use mathlib.Core.Path.{_≡_};
 ghost use mathlib.Core.Bool.{true, false, cond};
@@ -13,27 +14,6 @@ ghost use Rattle.pattern.specs.Walk.{optionalPasses};
 ghost use Rattle.places.specs.Laid.{entryOf};
 ghost use Rattle.places.specs.Asked.{Fitting, Put, Forked, Capped, insideStart, CountsRight, ownPlaces, OwnPlaces, ownGroups, Counting, Counted, One, OneLaid, Head, HeadLaid, Several, SeveralLaid, innerStart, movedTo, movedOther, Moving, PutMoved, Copied, Begun, BegunLaid, Repeating, PassesLaid, Repeat, RepeatLaid, Star, StarLaid, tableRoom, mostPlaces, mostNumber, mostCounted, mostOwn};
 ghost use Rattle.places.specs.Built.{Accepted, BuiltMatch, BuiltSearch};
-
-// The numbers of the kinds of place.
-const FORK: u16 = 0;
-
-const OPEN: u16 = 1;
-
-const CLOSE: u16 = 2;
-
-const BEGIN: u16 = 3;
-
-const BEGIN_OPTIONAL: u16 = 4;
-
-const END: u16 = 5;
-
-const SET: u16 = 6;
-
-const ANY: u16 = 7;
-
-const STOP: u16 = 8;
-
-const ACCEPT: u16 = 9;
 
 // Writes a place's four numbers.
 fn put(table: &mut [u16], x: usize, kind: u16, next: usize, a: usize, n: usize)
@@ -167,9 +147,9 @@ fn pass_fork(table: &mut [u16], x: usize, mode: usize, pass: usize, out: usize)
     ensures { λ _. ⌜ Forked (now (table .entry)) x mode pass out (now (table .exit)) ⌝ }
 {
     if mode == Pattern::GREEDY {
-        put(table, x, FORK, pass, out, 0);
+        put(table, x, PlaceKind::FORK, pass, out, 0);
     } else {
-        put(table, x, FORK, out, pass, 0);
+        put(table, x, PlaceKind::FORK, out, pass, 0);
     }
 }
 
@@ -235,7 +215,11 @@ fn moved_other(shift: Shift, kind: u16, a: usize) -> usize
     requires { ⌜ a ≤ mostNumber ⌝ }
     ensures { λ r. ⌜ (r ≡ movedOther (shift .from) (shift .count) (shift .to) (shift .next) kind a) × (r ≤ mostNumber) ⌝ }
 {
-    if kind == FORK { moved(shift, a) } else { a }
+    if kind == PlaceKind::FORK {
+        moved(shift, a)
+    } else {
+        a
+    }
 }
 
 // A number of a place.
@@ -318,15 +302,15 @@ fn passes(table: &mut [u16], pass: Pass, must: usize, may: usize, base: usize, n
     if must != 0 {
         let after = base + 1 + pass.places;
         let out = entered(must - 1 + may, after, next);
-        begun(table, pass, BEGIN, base, out);
+        begun(table, pass, PlaceKind::BEGIN, base, out);
         passes(table, pass, must - 1, may, after, next);
     } else if may != 0 {
         let begin = base + 1;
         let end = begin + 1 + pass.places;
         let out = pass_end(pass.endless, may, base, end + 1, next);
         pass_fork(table, base, pass.mode, begin, next);
-        begun(table, pass, BEGIN_OPTIONAL, begin, end);
-        put(table, end, END, out, 0, 0);
+        begun(table, pass, PlaceKind::BEGIN_OPTIONAL, begin, end);
+        put(table, end, PlaceKind::END, out, 0, 0);
         passes(table, pass, 0, may - 1, end + 1, next);
     }
 }
@@ -427,9 +411,9 @@ fn one(pattern: &[u8], table: &mut [u16], part: Part, base: usize, next: usize)
     let kind = number_at(pattern, at + 2);
     let start = at + 4;
     if places == 0 {} else if kind == Kind::NOTHING {
-        put(table, base, STOP, 0, 0, 0);
+        put(table, base, PlaceKind::STOP, 0, 0, 0);
     } else if kind == Kind::BYTES {
-        put(table, base, SET, next, start, (stop - start) / 2);
+        put(table, base, PlaceKind::SET, next, start, (stop - start) / 2);
     } else if kind == Kind::GROUP {
         let close = base + 1 + (places - 2);
         let inner = Part {
@@ -438,8 +422,17 @@ fn one(pattern: &[u8], table: &mut [u16], part: Part, base: usize, next: usize)
             first: first + 1,
             places: places - 2,
         };
-        headed(pattern, table, inner, OPEN, first, 0, base, close);
-        put(table, close, CLOSE, next, first, 0);
+        headed(
+            pattern,
+            table,
+            inner,
+            PlaceKind::OPEN,
+            first,
+            0,
+            base,
+            close,
+        );
+        put(table, close, PlaceKind::CLOSE, next, first, 0);
     } else if kind == Kind::REPEAT {
         repeated(pattern, table, start, stop, base, next, first);
     } else {
@@ -484,7 +477,14 @@ fn forked(pattern: &[u8], table: &mut [u16], part: Part, base: usize, next: usiz
         let second = from + 1 + mine;
         let rest = left - 1 - mine;
         let preferred = entered(mine, from + 1, next);
-        put(table, from, FORK, preferred, entered(rest, second, next), 0);
+        put(
+            table,
+            from,
+            PlaceKind::FORK,
+            preferred,
+            entered(rest, second, next),
+            0,
+        );
         let here = Part {
             at,
             stop: end,
@@ -555,9 +555,9 @@ fn any_star(table: &mut [u16], base: usize, mode: usize, next: usize, first: usi
     let inside = base + 1 + 1;
     let end = inside + 1;
     pass_fork(table, base, mode, base + 1, next);
-    put(table, base + 1, BEGIN_OPTIONAL, inside, first, 0);
-    put(table, inside, ANY, end, 0, 0);
-    put(table, end, END, base, 0, 0);
+    put(table, base + 1, PlaceKind::BEGIN_OPTIONAL, inside, first, 0);
+    put(table, inside, PlaceKind::ANY, end, 0, 0);
+    put(table, end, PlaceKind::END, base, 0, 0);
 }
 
 // Builds an accepted pattern's places for a whole match, and answers how many they are.
@@ -576,7 +576,7 @@ pub fn build_match(pattern: &[u8], table: &mut [u16]) -> usize
         places: end,
     };
     one(pattern, table, part, 0, end);
-    put(table, end, ACCEPT, 0, 0, 0);
+    put(table, end, PlaceKind::ACCEPT, 0, 0, 0);
     end + 1
 }
 
@@ -598,9 +598,9 @@ pub fn build_search(pattern: &[u8], table: &mut [u16]) -> usize
         first: 1,
         places,
     };
-    headed(pattern, table, part, OPEN, 0, 0, 4, close);
-    put(table, close, CLOSE, second, 0, 0);
+    headed(pattern, table, part, PlaceKind::OPEN, 0, 0, 4, close);
+    put(table, close, PlaceKind::CLOSE, second, 0, 0);
     any_star(table, second, Pattern::GREEDY, second + 4, all.groups + 1);
-    put(table, second + 4, ACCEPT, 0, 0, 0);
+    put(table, second + 4, PlaceKind::ACCEPT, 0, 0, 0);
     second + 5
 }

@@ -1,5 +1,6 @@
 // A turn of the scan: what a search that was made asks to copy and to put in, and where the scan goes on.
 use crate::writing;
+use pattern::Spans;
 ghost use mathlib.Core.Path.{_≡_};
 ghost use mathlib.Core.Bool.{Bool, cond, not};
 ghost use mathlib.Core.List.{[]};
@@ -14,14 +15,14 @@ ghost use Rattle.replacer.specs.Appended.{Appended};
 ghost use Rattle.replacer.specs.Turn.{lastOf, foundOf, Finds, asTurn};
 
 // Before the first non-empty match there is no place where the last one ended.
-pub const NONE: usize = 65535;
+pub const NONE: usize = writing::ABSENT;
 
 // Up to where the line is copied first, whether the template is put in and for which rows, up to where the line is copied then, whether the
 // scan goes on and from where, where the last non-empty match ended, and the search's steps.
 pub struct Turn {
     pub start: usize,
     pub put: bool,
-    pub rows: [u16; 20],
+    pub rows: [u16; Spans::NUMBERS],
     pub upto: usize,
     pub goes: bool,
     pub next: usize,
@@ -43,7 +44,7 @@ fn is_replaced(start: usize, end: usize, last: usize) -> bool
 }
 
 // The turn of a match, by its rows.
-fn match_turn(size: usize, last: usize, rows: [u16; 20], steps: u32) -> Turn
+fn match_turn(size: usize, last: usize, rows: [u16; Spans::NUMBERS], steps: u32) -> Turn
     requires { ⌜ Finds size Bool.true rows ⌝ }
     ensures { λ r. ⌜ (asTurn r ≡ turnOf size (lastOf last) (foundOf Bool.true rows)) × (r .steps ≡ steps) ⌝ }
 {
@@ -87,7 +88,13 @@ fn match_turn(size: usize, last: usize, rows: [u16; 20], steps: u32) -> Turn
 }
 
 // The turn of a search: with no match the rest of the line is copied, and the scan ends.
-pub fn turn_of(size: usize, last: usize, matched: bool, rows: [u16; 20], steps: u32) -> Turn
+pub fn turn_of(
+    size: usize,
+    last: usize,
+    matched: bool,
+    rows: [u16; Spans::NUMBERS],
+    steps: u32,
+) -> Turn
     requires { ⌜ Finds size matched rows ⌝ }
     ensures { λ r. ⌜ (asTurn r ≡ turnOf size (lastOf last) (foundOf matched rows)) × (r .steps ≡ steps) ⌝ }
 {
@@ -124,7 +131,7 @@ fn put_where(
     puts: bool,
     template: &[u8],
     line: &[u8],
-    rows: [u16; 20],
+    rows: [u16; Spans::NUMBERS],
     buffer: &mut [u8],
     at: usize,
 ) -> usize

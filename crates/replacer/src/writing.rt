@@ -1,4 +1,5 @@
 // Writing into the buffer: bytes behind those written already, and what a template puts in for a match.
+use pattern::Spans;
 use template::Record;
 use template::record_at;
 ghost use mathlib.Core.Path.{_≡_};
@@ -11,7 +12,7 @@ ghost use Rattle.replacer.specs.Given.{piecesOf, Right};
 ghost use Rattle.replacer.specs.Appended.{Appended};
 
 // The number that both ends of an absent row hold.
-const ABSENT: usize = 65535;
+pub const ABSENT: usize = Spans::ABSENT as usize;
 
 // Writes all of the bytes into the buffer from an offset on, and answers with where they end.
 pub fn append(bytes: &[u8], buffer: &mut [u8], at: usize) -> usize
@@ -27,7 +28,7 @@ pub fn append(bytes: &[u8], buffer: &mut [u8], at: usize) -> usize
 }
 
 // What a row holds; an absent one nothing.
-pub fn row_bytes(line: &[u8], rows: [u16; 20], row: usize) -> &[u8]
+pub fn row_bytes(line: &[u8], rows: [u16; Spans::NUMBERS], row: usize) -> &[u8]
     requires { ⌜ RowsFit (length (now line)) rows × (row ≤ patternGroups) × (length (now line) ≤ lineBytes) ⌝ }
     ensures { λ r. ⌜ now r ≡ rowBytes (now (line .entry)) rows row ⌝ }
 {
@@ -40,7 +41,7 @@ pub fn row_bytes(line: &[u8], rows: [u16; 20], row: usize) -> &[u8]
 }
 
 // How many bytes the template puts in for a match with these rows.
-pub fn put_length(template: &[u8], line: &[u8], rows: [u16; 20]) -> usize
+pub fn put_length(template: &[u8], line: &[u8], rows: [u16; Spans::NUMBERS]) -> usize
     requires { ⌜ Right (now template) × RowsFit (length (now line)) rows × (length (now line) ≤ lineBytes) ⌝ }
     ensures { λ r. ⌜ r ≡ length (putIn (now (template .entry)) (now (line .entry)) rows (piecesOf (now (template .entry)))) ⌝ }
 {
@@ -64,7 +65,13 @@ pub fn put_length(template: &[u8], line: &[u8], rows: [u16; 20]) -> usize
 }
 
 // Writes what the template puts in for a match with these rows, and answers with where it ends.
-pub fn put(template: &[u8], line: &[u8], rows: [u16; 20], buffer: &mut [u8], at: usize) -> usize
+pub fn put(
+    template: &[u8],
+    line: &[u8],
+    rows: [u16; Spans::NUMBERS],
+    buffer: &mut [u8],
+    at: usize,
+) -> usize
     requires { ⌜ Right (now template) × RowsFit (length (now line)) rows × (length (now line) ≤ lineBytes) × (at + length (putIn (now template) (now line) rows (piecesOf (now template))) ≤ length (now buffer)) ⌝ }
     ensures { λ r. ⌜ Appended (now (buffer .entry)) (now (buffer .exit)) at (putIn (now (template .entry)) (now (line .entry)) rows (piecesOf (now (template .entry)))) r ⌝ }
 {

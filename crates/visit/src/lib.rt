@@ -1,4 +1,5 @@
 // One position of the line: an arrival at a place with all that it leads to there. The tables are lent; nothing is allocated.
+use pattern::PlaceKind;
 use pattern::Spans;
 ghost use mathlib.Core.Path.{_≡_};
 ghost use mathlib.Core.Bool.{not};
@@ -22,21 +23,21 @@ pub const THREAD: usize = Spans::NUMBERS + 1;
 pub const BRANCH: usize = Spans::NUMBERS + 2;
 
 // The kinds of place. Those before END and END itself lead on at once; a fork does to two places.
-const FORK: usize = 0;
+const FORK: usize = PlaceKind::FORK as usize;
 
-const OPEN: usize = 1;
+const OPEN: usize = PlaceKind::OPEN as usize;
 
-const CLOSE: usize = 2;
+const CLOSE: usize = PlaceKind::CLOSE as usize;
 
-const BEGIN_OPTIONAL: usize = 4;
+const BEGIN_OPTIONAL: usize = PlaceKind::BEGIN_OPTIONAL as usize;
 
-const END: usize = 5;
+const END: usize = PlaceKind::END as usize;
 
-const SET: usize = 6;
+const SET: usize = PlaceKind::SET as usize;
 
-const ANY: usize = 7;
+const ANY: usize = PlaceKind::ANY as usize;
 
-const ACCEPT: usize = 9;
+const ACCEPT: usize = PlaceKind::ACCEPT as usize;
 
 // The four numbers of a place.
 struct Numbers {
