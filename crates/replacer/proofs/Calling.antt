@@ -3,6 +3,7 @@ use Prim.Native.Nat.{ℕ, _+_, _*_, _/_, _≤_, _<_, max, zero-le}
 use mathlib.Core.Path.{_≡_, refl, sym, ap, subst, _∙_}
 use mathlib.Core.Bool.{Bool, true, false}
 use mathlib.Core.List.{List, [], _++_}
+use native.Mathlib.Omega.{arith}
 use lib.Dec.{leb}
 use lib.ListN.{length, drop}
 use borrow.Author.Tests.{le-leb, lt-leb}
@@ -18,9 +19,11 @@ use Rattle.template.proofs.Records.{references-right, references-refused}
 use Rattle.matcher.specs.declared.Built.{Built}
 use Rattle.matcher.specs.Machine.{Ready, Builds}
 use Rattle.replacer.specs.declared.Replaced.{Replaced}
-use Rattle.replacer.specs.Given.{acceptedOr, treeOf, piecesOf, Right, wholeOf}
+use Rattle.replacer.specs.declared.scans.Measured.{Measured}
+use Rattle.replacer.specs.Given.{acceptedOr, treeOf, piecesOf, Right, Replaceable, wholeOf}
+use Rattle.replacer.specs.Scans.{Measures}
 use Rattle.replacer.specs.Promise.{Replaces}
-use Rattle.replacer.proofs.Scanning.{ready-tree}
+use Rattle.replacer.proofs.Scanning.{ready-tree, ready-accepts}
 
 -- ---- what was asked before
 
@@ -117,12 +120,12 @@ module _ (pattern template line lent : List ℕ) where
 
       module _ (small : length line ≤ lineBytes) where
         -- 13
-        pub refuses-output : length lent < output → Replaces pattern template line lent (Replaced.Refused outputTooLong 0) lent
+        refuses-output : length lent < output → Replaces pattern template line lent (Replaced.Refused outputTooLong 0) lent
         refuses-output long =
             refuses outputTooLong 0 (by-tests true false (le-leb (length line) lineBytes small) (lt-leb output (length lent) long))
 
         -- and the scan's output, where it has room
-        pub replaces : output ≤ length lent → (long replacements steps : ℕ) → long ≡ output → replacements ≡ wholeOf pattern template line .replaced
+        replaces : output ≤ length lent → (long replacements steps : ℕ) → long ≡ output → replacements ≡ wholeOf pattern template line .replaced
             → steps ≡ wholeOf pattern template line .steps → (after : List ℕ) → after ≡ wholeOf pattern template line .output ++ drop output lent
             → Replaces pattern template line lent (Replaced.Done long replacements steps) after
         replaces room long replacements steps l r s after wrote =
@@ -139,3 +142,18 @@ module _ (pattern template line lent : List ℕ) where
                   wholeOf pattern template line .steps ≤ (allPlaces f + 10) * (max 1 (depth f) + 1) * ((length line + 1) * (length line + 2) / 2)) same
                   (replaceAll-steps (treeOf pattern) template line (piecesOf template) small));
             }
+
+-- ---- what was measured decides between 13 and the scan's output
+
+module _ {pattern code : List ℕ} {places deep : ℕ} {template line : List ℕ} (given : Replaceable pattern code places deep template line) {m : Measured}
+    (measured : Measures pattern template line m) {lent : List ℕ} where
+  pub refuses-measured : length lent < m .length → Replaces pattern template line lent (Replaced.Refused outputTooLong 0) lent
+  refuses-measured long =
+      refuses-output pattern template line lent (ready-accepts (given .ready)) (given .right) (given .low) (given .short) (omega (arith, measured .long))
+
+  pub replaces-measured : m .length ≤ length lent → {after : List ℕ}
+      → after ≡ wholeOf pattern template line .output ++ drop (length (wholeOf pattern template line .output)) lent
+      → Replaces pattern template line lent (Replaced.Done (m .length) (m .replacements) (m .steps)) after
+  replaces-measured room {after} wrote =
+      replaces pattern template line lent (ready-accepts (given .ready)) (given .right) (given .low) (given .short) (omega (arith, measured .long))
+      (m .length) (m .replacements) (m .steps) (measured .long) (measured .replaced) (measured .stepped) after wrote

@@ -32,13 +32,17 @@ pub record Kept (a b c d a′ b′ c′ d′ : List ℕ) : Type 0 where
   pub third : length c′ ≡ length c
   pub fourth : length d′ ≡ length d
 
-pub kept-start : (a b c d : List ℕ) → Kept a b c d a b c d
-kept-start a b c d = record { first = refl; second = refl; third = refl; fourth = refl }
+pub kept-start : {a b c d : List ℕ} → Kept a b c d a b c d
+kept-start = record { first = refl; second = refl; third = refl; fourth = refl }
+
+pub kept-on : {a b c d a′ b′ c′ d′ a″ b″ c″ d″ : List ℕ} → Kept a b c d a′ b′ c′ d′ → length a″ ≡ length a′ → length b″ ≡ length b′ → length c″ ≡ length c′
+    → length d″ ≡ length d′ → Kept a b c d a″ b″ c″ d″
+kept-on k e f g h = record { first = e ∙ k .first; second = f ∙ k .second; third = g ∙ k .third; fourth = h ∙ k .fourth }
 
 -- a machine that can run from the line's start can run from any position of it, with scratch as long
 pub runs-on : {pattern code line : List ℕ} {places deep : ℕ} {a b c d : List ℕ} → Runnable pattern code line true places deep 0 a b c d
-    → (from : ℕ) → from ≤ length line → (a′ b′ c′ d′ : List ℕ) → Kept a b c d a′ b′ c′ d′ → Runnable pattern code line true places deep from a′ b′ c′ d′
-runs-on r from inside a′ b′ c′ d′ kept =
+    → {from : ℕ} → from ≤ length line → {a′ b′ c′ d′ : List ℕ} → Kept a b c d a′ b′ c′ d′ → Runnable pattern code line true places deep from a′ b′ c′ d′
+runs-on r inside kept =
     record {
       ready = r .ready;
       short = r .short;
@@ -91,7 +95,7 @@ module _ (pattern template line : List ℕ) where
 abbrev pub ahead : List ℕ → Bool → ℕ → ℕ
 ahead line goes from = cond goes (suc (length line - from)) 0
 
-pub ahead-falls : (line : List ℕ) (goes : Bool) (from : ℕ) (on : Bool) (next : ℕ) → goes ≡ true → (on ≡ true → (from < next) × (next ≤ length line))
+ahead-falls : (line : List ℕ) (goes : Bool) (from : ℕ) (on : Bool) (next : ℕ) → goes ≡ true → (on ≡ true → (from < next) × (next ≤ length line))
     → ahead line on next < ahead line goes from
 ahead-falls line goes from on next go further = subst (λ (b : Bool). ahead line on next < ahead line b from) (sym go) (look on further)
   where
@@ -101,11 +105,19 @@ ahead-falls line goes from on next go further = subst (λ (b : Bool). ahead line
 
 -- ---- a turn of the scan
 
+module _ {pattern line : List ℕ} (small : length line ≤ lineBytes) {from last : ℕ} {t : Turn} (turns : Turns pattern line from last t) (inside : from ≤ length line) where
+  pub turns-fit : TurnFits (length line) from (asTurn t)
+  turns-fit = subst (TurnFits (length line) from) (sym (turns .same)) (turn-fits (treeOf pattern) line from (lastOf last) small inside)
+
+  -- the scan goes on further in the line
+  turns-further : t .goes ≡ true → (from < t .next) × (t .next ≤ length line)
+  turns-further = turns-fit .further
+
+  pub turns-ahead : {goes : Bool} → goes ≡ true → ahead line (t .goes) (t .next) < ahead line goes from
+  turns-ahead {goes} go = ahead-falls line goes from (t .goes) (t .next) go turns-further
+
 module _ (pattern template line : List ℕ) (small : length line ≤ lineBytes) where
   module _ (from last : ℕ) (t : Turn) (turns : Turns pattern line from last t) (inside : from ≤ length line) where
-    pub turns-fit : TurnFits (length line) from (asTurn t)
-    turns-fit = subst (TurnFits (length line) from) (sym (turns .same)) (turn-fits (treeOf pattern) line from (lastOf last) small inside)
-
     turns-before : scanFrom (treeOf pattern) template line (piecesOf template) from (lastOf last)
         ≡ before (turnBytes template line (piecesOf template) from (asTurn t)) (turnCount (asTurn t)) (t .steps) (leftOf pattern template line (t .goes) (t .next) (t .last))
     turns-before =
@@ -115,46 +127,44 @@ module _ (pattern template line : List ℕ) (small : length line ≤ lineBytes) 
         before (turnBytes template line (piecesOf template) from (turns .same i)) (turnCount (turns .same i)) (turns .counted i)
         (turnRest (scanFrom (treeOf pattern) template line (piecesOf template)) (turns .same i)))
 
-    -- the scan goes on further in the line
-    pub turns-further : t .goes ≡ true → (from < t .next) × (t .next ≤ length line)
-    turns-further = turns-fit .further
-
   -- the whole scan
   whole-left : leftOf pattern template line true 0 absent ≡ wholeOf pattern template line
   whole-left = scan-whole (treeOf pattern) template line (piecesOf template) small
 
-  -- ---- measuring
+-- ---- measuring
 
+module _ {pattern template line : List ℕ} (small : length line ≤ lineBytes) where
   pub sum-start : Summing pattern template line 0 absent true 0 0 0
   sum-start =
+      let all = whole-left pattern template line small in
       record {
         inside = λ go. omega arith;
-        written = omega (arith, ap (λ (s : Scanned). length (s .output)) whole-left);
-        replaced = omega (arith, ap (λ (s : Scanned). s .replaced) whole-left);
-        stepped = omega (arith, ap (λ (s : Scanned). s .steps) whole-left);
+        written = omega (arith, ap (λ (s : Scanned). length (s .output)) all);
+        replaced = omega (arith, ap (λ (s : Scanned). s .replaced) all);
+        stepped = omega (arith, ap (λ (s : Scanned). s .steps) all);
       }
 
-  pub sum-more : (from last total replacements steps : ℕ) (goes : Bool) → goes ≡ true → Summing pattern template line from last goes total replacements steps → (t : Turn)
-      → Turns pattern line from last t → (added : ℕ) → added ≡ length (turnBytes template line (piecesOf template) from (asTurn t)) → (ones : ℕ)
+  pub sum-more : {from last total replacements steps : ℕ} {goes : Bool} → goes ≡ true → Summing pattern template line from last goes total replacements steps → {t : Turn}
+      → Turns pattern line from last t → {added : ℕ} → added ≡ length (turnBytes template line (piecesOf template) from (asTurn t)) → {ones : ℕ}
       → ones ≡ cond (t .put) 1 0 → Summing pattern template line (t .next) (t .last) (t .goes) (total + added) (replacements + ones) (steps + t .steps)
-  sum-more from last total replacements steps goes go sum t turns added adds ones counts =
+  sum-more {from} {last} {total} {replacements} {steps} {goes} go sum {t} turns {added} adds {ones} counts =
       let inside = sum .inside go in
       let here : leftOf pattern template line goes from last
       ≡ before (turnBytes template line (piecesOf template) from (asTurn t)) (turnCount (asTurn t)) (t .steps) (leftOf pattern template line (t .goes) (t .next) (t .last)) =
-      ap (λ (b : Bool). leftOf pattern template line b from last) go ∙ turns-before from last t turns inside in
+      ap (λ (b : Bool). leftOf pattern template line b from last) go ∙ turns-before pattern template line small from last t turns inside in
       let left = leftOf pattern template line (t .goes) (t .next) (t .last) in
       let bytes = turnBytes template line (piecesOf template) from (asTurn t) in
       record {
-        inside = λ on. turns-further from last t turns inside on .1;
+        inside = λ on. turns-further small turns inside on .1;
         written = omega (arith, sum .written, ap (λ (s : Scanned). length (s .output)) here, length-append bytes (left .output));
         replaced = omega (arith, sum .replaced, ap (λ (s : Scanned). s .replaced) here);
         stepped = omega (arith, sum .stepped, ap (λ (s : Scanned). s .steps) here);
       }
 
   -- where the scan has ended, the whole is measured
-  pub sum-end : (from last total replacements steps : ℕ) (goes : Bool) → goes ≡ false → Summing pattern template line from last goes total replacements steps
+  pub sum-end : {from last total replacements steps : ℕ} {goes : Bool} → goes ≡ false → Summing pattern template line from last goes total replacements steps
       → Measures pattern template line (record { length = total; replacements = replacements; steps = steps })
-  sum-end from last total replacements steps goes stop sum =
+  sum-end {from} {last} {total} {replacements} {steps} {goes} stop sum =
       let none-left : leftOf pattern template line goes from last ≡ ended = ap (λ (b : Bool). leftOf pattern template line b from last) stop in
       record {
         long = omega (arith, sum .written, ap (λ (s : Scanned). length (s .output)) none-left);
@@ -163,26 +173,32 @@ module _ (pattern template line : List ℕ) (small : length line ≤ lineBytes) 
       }
 
   -- what is measured never passes the limits
-  pub sum-fits : Right template → Lawful (treeOf pattern)
-      → (length (wholeOf pattern template line .output) ≤ mostOutput) × (wholeOf pattern template line .replaced ≤ lineBytes + 1) × (wholeOf pattern template line .steps ≤ mostSum)
-  sum-fits right lawful =
+  pub sum-fits : {from last total replacements steps : ℕ} {goes : Bool} → Right template → Lawful (treeOf pattern)
+      → Summing pattern template line from last goes total replacements steps → (total ≤ mostOutput) × (replacements ≤ lineBytes + 1) × (steps ≤ mostSum)
+  sum-fits right lawful sum =
       let short = replaceAll-short (treeOf pattern) template line (piecesOf template) right small in
-      (short .0, short .1, replaceAll-most (treeOf pattern) template line (piecesOf template) lawful small)
+      let most = replaceAll-most (treeOf pattern) template line (piecesOf template) lawful small in
+      (omega (arith, sum .written, short .0), omega (arith, sum .replaced, short .1), omega (arith, sum .stepped, most))
 
   -- ---- writing
 
-  pub fill-start : (entry : List ℕ) → Filling pattern template line entry 0 absent true entry 0
-  fill-start entry =
-      record { inside = λ go. omega arith; done = []; same = ap (λ (s : Scanned). s .output) whole-left; written = nothing-written entry 0 }
+  pub fill-start : {entry : List ℕ} → Filling pattern template line entry 0 absent true entry 0
+  fill-start {entry} =
+      record {
+        inside = λ go. omega arith;
+        done = [];
+        same = ap (λ (s : Scanned). s .output) (whole-left pattern template line small);
+        written = nothing-written entry 0;
+      }
 
-  module _ (entry : List ℕ) (from last : ℕ) (goes : Bool) (go : goes ≡ true) (buffer : List ℕ) (at : ℕ) (fill : Filling pattern template line entry from last goes buffer at)
-      (t : Turn) (turns : Turns pattern line from last t) where
+  module _ {entry : List ℕ} {from last : ℕ} {goes : Bool} (go : goes ≡ true) {buffer : List ℕ} {at : ℕ} (fill : Filling pattern template line entry from last goes buffer at)
+      {t : Turn} (turns : Turns pattern line from last t) where
     next-same : fill .done ++ turnBytes template line (piecesOf template) from (asTurn t) ++ leftOf pattern template line (t .goes) (t .next) (t .last) .output
         ≡ wholeOf pattern template line .output
     next-same =
         append-assoc (fill .done) (turnBytes template line (piecesOf template) from (asTurn t)) (leftOf pattern template line (t .goes) (t .next) (t .last) .output)
         ∙ ap (λ (s : Scanned). fill .done ++ s .output)
-        (sym (ap (λ (b : Bool). leftOf pattern template line b from last) go ∙ turns-before from last t turns (fill .inside go)))
+        (sym (ap (λ (b : Bool). leftOf pattern template line b from last) go ∙ turns-before pattern template line small from last t turns (fill .inside go)))
         ∙ fill .same
 
     -- where the whole has room, a turn has
@@ -194,21 +210,21 @@ module _ (pattern template line : List ℕ) (small : length line ≤ lineBytes) 
         omega
         (arith, ap length next-same, length-append (fill .done ++ bytes) left, length-append (fill .done) bytes, fill .written .ends, fill .written .long)
 
-    pub fill-more : (after : List ℕ) (end : ℕ) → Appended buffer after at (turnBytes template line (piecesOf template) from (asTurn t)) end
+    pub fill-more : {after : List ℕ} {end : ℕ} → Appended buffer after at (turnBytes template line (piecesOf template) from (asTurn t)) end
         → Filling pattern template line entry (t .next) (t .last) (t .goes) after end
-    fill-more after end wrote =
+    fill-more {after} {end} wrote =
         let bytes = turnBytes template line (piecesOf template) from (asTurn t) in
         record {
-          inside = λ on. turns-further from last t turns (fill .inside go) on .1;
+          inside = λ on. turns-further small turns (fill .inside go) on .1;
           done = fill .done ++ bytes;
           same = next-same;
           written = written-on entry buffer after (fill .done) bytes 0 at end (fill .written) wrote;
         }
 
   -- where the scan has ended, the whole is written
-  pub fill-end : (entry : List ℕ) (from last : ℕ) (goes : Bool) → goes ≡ false → (buffer : List ℕ) (at : ℕ) → Filling pattern template line entry from last goes buffer at
+  pub fill-end : {entry : List ℕ} {from last : ℕ} {goes : Bool} → goes ≡ false → {buffer : List ℕ} {at : ℕ} → Filling pattern template line entry from last goes buffer at
       → buffer ≡ wholeOf pattern template line .output ++ drop (length (wholeOf pattern template line .output)) entry
-  fill-end entry from last goes stop buffer at fill =
+  fill-end {entry} {from} {last} {goes} stop {buffer} {at} fill =
       let all : fill .done ≡ wholeOf pattern template line .output =
       sym (append-nil (fill .done)) ∙ ap (λ (b : Bool). fill .done ++ leftOf pattern template line b from last .output) (sym stop) ∙ fill .same in
       let ends : at ≡ length (wholeOf pattern template line .output) = omega (arith, fill .written .ends, ap length all) in

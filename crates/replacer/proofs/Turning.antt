@@ -136,7 +136,7 @@ module _ (template line : List ℕ) (pieces : List Piece) (p : ℕ) (t : Turn) (
       (omega arith, omega arith, omega arith)
 
   -- the three written one after another are all written
-  pub turn-written : (a b c d : List ℕ) (at m n end : ℕ) → Appended a b at first m → Appended b c m puts n → Appended c d n second end
+  pub turn-written : {a b c d : List ℕ} {at m n end : ℕ} → Appended a b at first m → Appended b c m puts n → Appended c d n second end
       → Appended a d at (turnBytes template line pieces p t) end
-  turn-written a b c d at m n end one two three =
+  turn-written {a} {b} {c} {d} {at} {m} {n} {end} one two three =
       written-on a b d first (puts ++ second) at m end one (written-on b c d puts second m n end two three)

@@ -2,8 +2,8 @@
 use native.Mathlib.Omega.{arith}
 use borrow.Author.Needs.{needs}
 use Rattle.matcher.proofs.Wiring.{ready-runs}
-use Rattle.replacer.proofs.Calling.{refuses-output, replaces}
-use Rattle.replacer.proofs.Scanning.{ready-accepts, runs-on}
+use Rattle.replacer.proofs.Calling.{refuses-measured, replaces-measured}
+use Rattle.replacer.proofs.Scanning.{kept-start, kept-on, runs-on}
 use Rattle.replacer.proofs.replace_in.Statement.{statement}
 use Rattle.replacer.proofs.replace_in.Tie as tie
 
@@ -26,11 +26,10 @@ same-length-4 c = search needs
 
 returns : tie.Need-returns
 returns c =
-    let the-args = c .before .before .before .before .before .before .before .before .before .before .before .before .before .before .before .before .before .before .before .before .before .before .before .before .args in
     let the-pre = c .before .before .before .before .before .before .before .before .before .before .before .before .before .before .before .before .before .before .before .before .before .before .before .before .pre in
     let the-if1 = c .if1 in
     let the-measure = c .before .before .before .before .before .before .before .before .before .before .measure in
-    refuses-output (the-args .pattern .now) (the-args .template .now) (the-args .line .now) (the-args .buffer .now) (ready-accepts (the-pre .0 .ready)) (the-pre .0 .right) (the-pre .0 .low) (the-pre .0 .short) (omega (arith, the-if1 .taken, the-measure .ensures .long))
+    refuses-measured (the-pre .0) (the-measure .ensures) (the-if1 .taken)
 
 write-requires : tie.Need-write-requires
 write-requires c κs =
@@ -38,7 +37,9 @@ write-requires c κs =
     let the-measure = c .before .before .before .before .before .before .before .before .before .before .before .before .before .before .before .measure in
     let the-if1 = c .before .before .before .before .before .if1 in
     let runs = ready-runs (the-pre .0 .ready) (the-pre .0 .short) (the-pre .1) in
-    (the-pre .0 .right, runs-on runs 0 (omega arith) (the-measure .last .1 .1 .1 .1 .1 .1 .0) (the-measure .last .1 .1 .1 .1 .1 .1 .1 .0) (the-measure .last .1 .1 .1 .1 .1 .1 .1 .1 .0) (the-measure .last .1 .1 .1 .1 .1 .1 .1 .1 .1 .0) (record { first = the-measure .kept .1 .1 .1 .1 .1 .1 .0; second = the-measure .kept .1 .1 .1 .1 .1 .1 .1 .0; third = the-measure .kept .1 .1 .1 .1 .1 .1 .1 .1 .0; fourth = the-measure .kept .1 .1 .1 .1 .1 .1 .1 .1 .1 .0 }), omega (arith, the-if1 .left, the-measure .ensures .long))
+    let lengths = the-measure .kept .1 .1 .1 .1 .1 .1 in
+    let kept = kept-on kept-start (lengths .0) (lengths .1 .0) (lengths .1 .1 .0) (lengths .1 .1 .1 .0) in
+    (the-pre .0 .right, runs-on runs (omega arith) kept, omega (arith, the-if1 .left, the-measure .ensures .long))
 
 same-length-5 : tie.Need-same-length-5
 same-length-5 c = search needs
@@ -57,12 +58,11 @@ same-length-9 c = search needs
 
 returns-2 : tie.Need-returns-2
 returns-2 c =
-    let the-args = c .before .before .before .before .before .before .before .before .before .before .before .before .before .before .before .before .before .before .before .before .before .before .before .before .before .before .before .before .before .before .before .before .before .before .before .before .before .before .before .before .args in
     let the-pre = c .before .before .before .before .before .before .before .before .before .before .before .before .before .before .before .before .before .before .before .before .before .before .before .before .before .before .before .before .before .before .before .before .before .before .before .before .before .before .before .before .pre in
     let the-if1 = c .before .before .before .before .before .before .before .before .before .before .before .before .before .before .before .before .if1 in
     let the-measure = c .before .before .before .before .before .before .before .before .before .before .before .before .before .before .before .before .before .before .before .before .before .before .before .before .before .before .measure in
     let the-write = c .before .before .before .before .before .before .before .before .before .before .write in
-    replaces (the-args .pattern .now) (the-args .template .now) (the-args .line .now) (the-args .buffer .now) (ready-accepts (the-pre .0 .ready)) (the-pre .0 .right) (the-pre .0 .low) (the-pre .0 .short) (omega (arith, the-if1 .left, the-measure .ensures .long)) (the-measure .result .length) (the-measure .result .replacements) (the-measure .result .steps) (the-measure .ensures .long) (the-measure .ensures .replaced) (the-measure .ensures .stepped) _ (the-write .ensures)
+    replaces-measured (the-pre .0) (the-measure .ensures) (omega (arith, the-if1 .left)) (the-write .ensures)
 
 pub replace-in-spec : {M : Type 1} → statement M
 replace-in-spec =

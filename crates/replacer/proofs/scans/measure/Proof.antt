@@ -3,7 +3,7 @@ use mathlib.Core.Path.{refl, _∙_}
 use mathlib.Core.Bool.{cond}
 use native.Mathlib.Omega.{arith}
 use borrow.Author.Needs.{needs}
-use Rattle.replacer.proofs.Scanning.{Kept, kept-start, runs-on, ready-lawful, Summing, sum-start, sum-more, sum-end, sum-fits, ahead, ahead-falls, turns-fit, turns-further}
+use Rattle.replacer.proofs.Scanning.{Kept, kept-start, kept-on, runs-on, ready-lawful, Summing, sum-start, sum-more, sum-end, sum-fits, ahead, turns-ahead, turns-fit}
 use Rattle.replacer.proofs.scans.measure.Statement.{statement}
 use Rattle.replacer.proofs.scans.measure.Tie as tie
 
@@ -17,89 +17,81 @@ abbrev μ-loop : tie.MeasureT-loop
 
 loop-holds : tie.Need-loop-holds Inv-loop μ-loop
 loop-holds c =
-    let the-args = c .before .before .before .before .before .before .before .before .args in
     let the-pre = c .before .before .before .before .before .before .before .before .pre in
-    (kept-start (the-args .seen .now) (the-args .taken .now) (the-args .lists .now) (the-args .pending .now), sum-start (the-args .pattern .now) (the-args .template .now) (the-args .line .now) (the-pre .1 .short))
+    (kept-start, sum-start (the-pre .1 .short))
 
 search-turn-requires : tie.Need-search-turn-requires Inv-loop μ-loop
 search-turn-requires c κs =
     let the-pre = c .before .before .before .before .before .before .before .before .before .before .before .before .before .before .pre in
     let the-loop = c .before .before .before .before .before .loop in
     let the-loop-test = c .before .before .before .before .loop-test in
-    runs-on (the-pre .1) (the-loop .from) (the-loop .inv .1 .inside (the-loop-test .taken)) (the-loop .seen) (the-loop .taken) (the-loop .lists) (the-loop .pending) (the-loop .inv .0)
+    runs-on (the-pre .1) (the-loop .inv .1 .inside (the-loop-test .taken)) (the-loop .inv .0)
 
 turn-length-requires : tie.Need-turn-length-requires Inv-loop μ-loop
 turn-length-requires c κs =
     let the-pre = c .before .before .before .before .before .before .before .before .before .before .before .before .before .before .before .before .before .before .before .before .before .before .before .pre in
-    let the-args = c .before .before .before .before .before .before .before .before .before .before .before .before .before .before .before .before .before .before .before .before .before .before .before .args in
     let the-loop = c .before .before .before .before .before .before .before .before .before .before .before .before .before .before .loop in
     let the-search-turn = c .before .before .before .before .before .before .before .before .search-turn in
     let the-loop-test = c .before .before .before .before .before .before .before .before .before .before .before .before .before .loop-test in
-    (the-pre .0, turns-fit (the-args .pattern .now) (the-args .template .now) (the-args .line .now) (the-pre .1 .short) (the-loop .from) (the-loop .last) (the-search-turn .result) (the-search-turn .ensures) (the-loop .inv .1 .inside (the-loop-test .taken)), the-pre .1 .short)
+    (the-pre .0, turns-fit (the-pre .1 .short) (the-search-turn .ensures) (the-loop .inv .1 .inside (the-loop-test .taken)), the-pre .1 .short)
 
 add-total : tie.Need-add-total Inv-loop μ-loop
 add-total c =
-    let the-args = c .before .before .before .before .before .before .before .before .before .before .before .before .before .before .before .before .before .before .before .before .before .before .before .before .args in
     let the-pre = c .before .before .before .before .before .before .before .before .before .before .before .before .before .before .before .before .before .before .before .before .before .before .before .before .pre in
     let the-loop = c .before .before .before .before .before .before .before .before .before .before .before .before .before .before .before .loop in
     let the-loop-test = c .before .before .before .before .before .before .before .before .before .before .before .before .before .before .loop-test in
     let the-search-turn = c .before .before .before .before .before .before .before .before .before .search-turn in
     let the-turn-length = c .turn-length in
-    omega (arith, (sum-more (the-args .pattern .now) (the-args .template .now) (the-args .line .now) (the-pre .1 .short) (the-loop .from) (the-loop .last) (the-loop .total) (the-loop .replacements) (the-loop .steps) (the-loop .goes) (the-loop-test .taken) (the-loop .inv .1) (the-search-turn .result) (the-search-turn .ensures) (the-turn-length .result) (the-turn-length .ensures) (cond (the-search-turn .result .put) 1 0) refl) .written, sum-fits (the-args .pattern .now) (the-args .template .now) (the-args .line .now) (the-pre .1 .short) (the-pre .0) (ready-lawful (the-pre .1 .ready)))
+    let next = sum-more (the-pre .1 .short) (the-loop-test .taken) (the-loop .inv .1) (the-search-turn .ensures) (the-turn-length .ensures) {ones = cond (the-search-turn .result .put) 1 0} refl in
+    omega (arith, sum-fits (the-pre .1 .short) (the-pre .0) (ready-lawful (the-pre .1 .ready)) next)
 
 counted-requires : tie.Need-counted-requires Inv-loop μ-loop
 counted-requires c κs = search needs
 
 add-replacements : tie.Need-add-replacements Inv-loop μ-loop
 add-replacements c =
-    let the-args = c .before .before .before .before .before .before .before .before .before .before .before .before .before .before .before .before .before .before .before .before .before .before .before .before .before .args in
     let the-pre = c .before .before .before .before .before .before .before .before .before .before .before .before .before .before .before .before .before .before .before .before .before .before .before .before .before .pre in
     let the-loop = c .before .before .before .before .before .before .before .before .before .before .before .before .before .before .before .before .loop in
     let the-loop-test = c .before .before .before .before .before .before .before .before .before .before .before .before .before .before .before .loop-test in
     let the-search-turn = c .before .before .before .before .before .before .before .before .before .before .search-turn in
     let the-turn-length = c .before .turn-length in
     let the-counted = c .counted in
-    omega (arith, (sum-more (the-args .pattern .now) (the-args .template .now) (the-args .line .now) (the-pre .1 .short) (the-loop .from) (the-loop .last) (the-loop .total) (the-loop .replacements) (the-loop .steps) (the-loop .goes) (the-loop-test .taken) (the-loop .inv .1) (the-search-turn .result) (the-search-turn .ensures) (the-turn-length .result) (the-turn-length .ensures) (the-counted .result) (the-counted .ensures)) .replaced, sum-fits (the-args .pattern .now) (the-args .template .now) (the-args .line .now) (the-pre .1 .short) (the-pre .0) (ready-lawful (the-pre .1 .ready)))
+    let next = sum-more (the-pre .1 .short) (the-loop-test .taken) (the-loop .inv .1) (the-search-turn .ensures) (the-turn-length .ensures) (the-counted .ensures) in
+    omega (arith, sum-fits (the-pre .1 .short) (the-pre .0) (ready-lawful (the-pre .1 .ready)) next)
 
 cast-steps : tie.Need-cast-steps Inv-loop μ-loop
 cast-steps c = search needs
 
 add-steps : tie.Need-add-steps Inv-loop μ-loop
 add-steps c =
-    let the-args = c .before .before .before .before .before .before .before .before .before .before .before .before .before .before .before .before .before .before .before .before .before .before .before .before .before .before .args in
     let the-pre = c .before .before .before .before .before .before .before .before .before .before .before .before .before .before .before .before .before .before .before .before .before .before .before .before .before .before .pre in
     let the-loop = c .before .before .before .before .before .before .before .before .before .before .before .before .before .before .before .before .before .loop in
     let the-loop-test = c .before .before .before .before .before .before .before .before .before .before .before .before .before .before .before .before .loop-test in
     let the-search-turn = c .before .before .before .before .before .before .before .before .before .before .before .search-turn in
     let the-turn-length = c .before .before .turn-length in
     let the-counted = c .before .counted in
-    omega (arith, (sum-more (the-args .pattern .now) (the-args .template .now) (the-args .line .now) (the-pre .1 .short) (the-loop .from) (the-loop .last) (the-loop .total) (the-loop .replacements) (the-loop .steps) (the-loop .goes) (the-loop-test .taken) (the-loop .inv .1) (the-search-turn .result) (the-search-turn .ensures) (the-turn-length .result) (the-turn-length .ensures) (the-counted .result) (the-counted .ensures)) .stepped, sum-fits (the-args .pattern .now) (the-args .template .now) (the-args .line .now) (the-pre .1 .short) (the-pre .0) (ready-lawful (the-pre .1 .ready)))
+    let next = sum-more (the-pre .1 .short) (the-loop-test .taken) (the-loop .inv .1) (the-search-turn .ensures) (the-turn-length .ensures) (the-counted .ensures) in
+    omega (arith, sum-fits (the-pre .1 .short) (the-pre .0) (ready-lawful (the-pre .1 .ready)) next)
 
 loop-less : tie.Need-loop-less Inv-loop μ-loop
 loop-less c =
-    let the-args = c .before .before .before .before .before .before .before .before .before .before .before .before .before .before .before .before .before .before .before .before .before .before .before .before .before .before .args in
     let the-loop = c .before .before .before .before .before .before .before .before .before .before .before .before .before .before .before .before .before .loop in
     let the-search-turn = c .before .before .before .before .before .before .before .before .before .before .before .search-turn in
     let the-loop-test = c .before .before .before .before .before .before .before .before .before .before .before .before .before .before .before .before .loop-test in
     let the-pre = c .before .before .before .before .before .before .before .before .before .before .before .before .before .before .before .before .before .before .before .before .before .before .before .before .before .before .pre in
-    ahead-falls (the-args .line .now) (the-loop .goes) (the-loop .from) (the-search-turn .result .goes) (the-search-turn .result .next) (the-loop-test .taken) (turns-further (the-args .pattern .now) (the-args .template .now) (the-args .line .now) (the-pre .1 .short) (the-loop .from) (the-loop .last) (the-search-turn .result) (the-search-turn .ensures) (the-loop .inv .1 .inside (the-loop-test .taken)))
+    turns-ahead (the-pre .1 .short) (the-search-turn .ensures) (the-loop .inv .1 .inside (the-loop-test .taken)) (the-loop-test .taken)
 
 loop-again : tie.Need-loop-again Inv-loop μ-loop
 loop-again c =
     let the-search-turn = c .before .before .before .before .before .before .before .before .before .before .before .search-turn in
     let the-loop = c .before .before .before .before .before .before .before .before .before .before .before .before .before .before .before .before .before .loop in
-    let the-args = c .before .before .before .before .before .before .before .before .before .before .before .before .before .before .before .before .before .before .before .before .before .before .before .before .before .before .args in
     let the-pre = c .before .before .before .before .before .before .before .before .before .before .before .before .before .before .before .before .before .before .before .before .before .before .before .before .before .before .pre in
     let the-loop-test = c .before .before .before .before .before .before .before .before .before .before .before .before .before .before .before .before .loop-test in
     let the-turn-length = c .before .before .turn-length in
-    let the-counted = c .before .counted in (
-      record {
-        first = the-search-turn .kept .1 .1 .1 .1 .1 .0 ∙ the-loop .inv .0 .first;
-        second = the-search-turn .kept .1 .1 .1 .1 .1 .1 .0 ∙ the-loop .inv .0 .second;
-        third = the-search-turn .kept .1 .1 .1 .1 .1 .1 .1 .0 ∙ the-loop .inv .0 .third;
-        fourth = the-search-turn .kept .1 .1 .1 .1 .1 .1 .1 .1 .0 ∙ the-loop .inv .0 .fourth;
-      },
-      sum-more (the-args .pattern .now) (the-args .template .now) (the-args .line .now) (the-pre .1 .short) (the-loop .from) (the-loop .last) (the-loop .total) (the-loop .replacements) (the-loop .steps) (the-loop .goes) (the-loop-test .taken) (the-loop .inv .1) (the-search-turn .result) (the-search-turn .ensures) (the-turn-length .result) (the-turn-length .ensures) (the-counted .result) (the-counted .ensures),
+    let the-counted = c .before .counted in
+    let lengths = the-search-turn .kept .1 .1 .1 .1 .1 in (
+      kept-on (the-loop .inv .0) (lengths .0) (lengths .1 .0) (lengths .1 .1 .0) (lengths .1 .1 .1 .0),
+      sum-more (the-pre .1 .short) (the-loop-test .taken) (the-loop .inv .1) (the-search-turn .ensures) (the-turn-length .ensures) (the-counted .ensures),
     )
 
 same-length : tie.Need-same-length Inv-loop μ-loop
@@ -124,11 +116,10 @@ same-length-4 c =
 
 returns : tie.Need-returns Inv-loop μ-loop
 returns c =
-    let the-args = c .before .before .before .before .before .before .before .before .before .before .args in
     let the-pre = c .before .before .before .before .before .before .before .before .before .before .pre in
     let the-loop = c .before .loop in
     let the-loop-test = c .loop-test in
-    sum-end (the-args .pattern .now) (the-args .template .now) (the-args .line .now) (the-pre .1 .short) (the-loop .from) (the-loop .last) (the-loop .total) (the-loop .replacements) (the-loop .steps) (the-loop .goes) (the-loop-test .left) (the-loop .inv .1)
+    sum-end (the-pre .1 .short) (the-loop-test .left) (the-loop .inv .1)
 
 pub measure-spec : {M : Type 1} → statement M
 measure-spec =

@@ -1,6 +1,6 @@
 -- `replacer::scans::write` meets its contract: what is written and what the scan gives from here on make up the whole at each turn.
 use mathlib.Core.Path.{_∙_}
-use Rattle.replacer.proofs.Scanning.{Kept, kept-start, runs-on, Filling, fill-start, fill-room, fill-more, fill-end, ahead, ahead-falls, turns-fit, turns-further}
+use Rattle.replacer.proofs.Scanning.{Kept, kept-start, kept-on, runs-on, Filling, fill-start, fill-room, fill-more, fill-end, ahead, turns-ahead, turns-fit}
 use Rattle.replacer.proofs.scans.write.Statement.{statement}
 use Rattle.replacer.proofs.scans.write.Tie as tie
 
@@ -14,50 +14,42 @@ abbrev μ-loop : tie.MeasureT-loop
 
 loop-holds : tie.Need-loop-holds Inv-loop μ-loop
 loop-holds c =
-    let the-args = c .before .before .before .before .before .before .before .before .before .args in
     let the-pre = c .before .before .before .before .before .before .before .before .before .pre in
-    (kept-start (the-args .seen .now) (the-args .taken .now) (the-args .lists .now) (the-args .pending .now), fill-start (the-args .pattern .now) (the-args .template .now) (the-args .line .now) (the-pre .1 .short) (the-args .buffer .now))
+    (kept-start, fill-start (the-pre .1 .short))
 
 search-turn-requires : tie.Need-search-turn-requires Inv-loop μ-loop
 search-turn-requires c κs =
     let the-pre = c .before .before .before .before .before .before .before .before .before .before .before .before .before .before .before .pre in
     let the-loop = c .before .before .before .before .before .loop in
     let the-loop-test = c .before .before .before .before .loop-test in
-    runs-on (the-pre .1) (the-loop .from) (the-loop .inv .1 .inside (the-loop-test .taken)) (the-loop .seen) (the-loop .taken) (the-loop .lists) (the-loop .pending) (the-loop .inv .0)
+    runs-on (the-pre .1) (the-loop .inv .1 .inside (the-loop-test .taken)) (the-loop .inv .0)
 
 write-turn-requires : tie.Need-write-turn-requires Inv-loop μ-loop
 write-turn-requires c κs =
     let the-pre = c .before .before .before .before .before .before .before .before .before .before .before .before .before .before .before .before .before .before .before .before .before .before .before .before .before .pre in
-    let the-args = c .before .before .before .before .before .before .before .before .before .before .before .before .before .before .before .before .before .before .before .before .before .before .before .before .before .args in
     let the-loop = c .before .before .before .before .before .before .before .before .before .before .before .before .before .before .before .loop in
     let the-search-turn = c .before .before .before .before .before .before .before .before .before .search-turn in
     let the-loop-test = c .before .before .before .before .before .before .before .before .before .before .before .before .before .before .loop-test in
-    (the-pre .0, turns-fit (the-args .pattern .now) (the-args .template .now) (the-args .line .now) (the-pre .1 .short) (the-loop .from) (the-loop .last) (the-search-turn .result) (the-search-turn .ensures) (the-loop .inv .1 .inside (the-loop-test .taken)), the-pre .1 .short, fill-room (the-args .pattern .now) (the-args .template .now) (the-args .line .now) (the-pre .1 .short) (the-args .buffer .now) (the-loop .from) (the-loop .last) (the-loop .goes) (the-loop-test .taken) (the-loop .buffer) (the-loop .at) (the-loop .inv .1) (the-search-turn .result) (the-search-turn .ensures) (the-pre .2))
+    (the-pre .0, turns-fit (the-pre .1 .short) (the-search-turn .ensures) (the-loop .inv .1 .inside (the-loop-test .taken)), the-pre .1 .short, fill-room (the-pre .1 .short) (the-loop-test .taken) (the-loop .inv .1) (the-search-turn .ensures) (the-pre .2))
 
 loop-less : tie.Need-loop-less Inv-loop μ-loop
 loop-less c =
-    let the-args = c .before .before .before .before .before .before .before .before .before .before .before .before .before .before .before .before .before .before .before .before .before .before .before .before .before .before .before .before .args in
     let the-loop = c .before .before .before .before .before .before .before .before .before .before .before .before .before .before .before .before .before .before .loop in
     let the-search-turn = c .before .before .before .before .before .before .before .before .before .before .before .before .search-turn in
     let the-loop-test = c .before .before .before .before .before .before .before .before .before .before .before .before .before .before .before .before .before .loop-test in
     let the-pre = c .before .before .before .before .before .before .before .before .before .before .before .before .before .before .before .before .before .before .before .before .before .before .before .before .before .before .before .before .pre in
-    ahead-falls (the-args .line .now) (the-loop .goes) (the-loop .from) (the-search-turn .result .goes) (the-search-turn .result .next) (the-loop-test .taken) (turns-further (the-args .pattern .now) (the-args .template .now) (the-args .line .now) (the-pre .1 .short) (the-loop .from) (the-loop .last) (the-search-turn .result) (the-search-turn .ensures) (the-loop .inv .1 .inside (the-loop-test .taken)))
+    turns-ahead (the-pre .1 .short) (the-search-turn .ensures) (the-loop .inv .1 .inside (the-loop-test .taken)) (the-loop-test .taken)
 
 loop-again : tie.Need-loop-again Inv-loop μ-loop
 loop-again c =
     let the-search-turn = c .before .before .before .before .before .before .before .before .before .before .before .before .search-turn in
     let the-loop = c .before .before .before .before .before .before .before .before .before .before .before .before .before .before .before .before .before .before .loop in
-    let the-args = c .before .before .before .before .before .before .before .before .before .before .before .before .before .before .before .before .before .before .before .before .before .before .before .before .before .before .before .before .args in
     let the-pre = c .before .before .before .before .before .before .before .before .before .before .before .before .before .before .before .before .before .before .before .before .before .before .before .before .before .before .before .before .pre in
     let the-loop-test = c .before .before .before .before .before .before .before .before .before .before .before .before .before .before .before .before .before .loop-test in
-    let the-write-turn = c .before .before .write-turn in (
-      record {
-        first = the-search-turn .kept .1 .1 .1 .1 .1 .0 ∙ the-loop .inv .0 .first;
-        second = the-search-turn .kept .1 .1 .1 .1 .1 .1 .0 ∙ the-loop .inv .0 .second;
-        third = the-search-turn .kept .1 .1 .1 .1 .1 .1 .1 .0 ∙ the-loop .inv .0 .third;
-        fourth = the-search-turn .kept .1 .1 .1 .1 .1 .1 .1 .1 .0 ∙ the-loop .inv .0 .fourth;
-      },
-      fill-more (the-args .pattern .now) (the-args .template .now) (the-args .line .now) (the-pre .1 .short) (the-args .buffer .now) (the-loop .from) (the-loop .last) (the-loop .goes) (the-loop-test .taken) (the-loop .buffer) (the-loop .at) (the-loop .inv .1) (the-search-turn .result) (the-search-turn .ensures) (the-write-turn .last .1 .1 .1 .1 .0) (the-write-turn .result) (the-write-turn .ensures),
+    let the-write-turn = c .before .before .write-turn in
+    let lengths = the-search-turn .kept .1 .1 .1 .1 .1 in (
+      kept-on (the-loop .inv .0) (lengths .0) (lengths .1 .0) (lengths .1 .1 .0) (lengths .1 .1 .1 .0),
+      fill-more (the-pre .1 .short) (the-loop-test .taken) (the-loop .inv .1) (the-search-turn .ensures) (the-write-turn .ensures),
     )
 
 same-length : tie.Need-same-length Inv-loop μ-loop
@@ -87,11 +79,10 @@ same-length-5 c =
 
 returns : tie.Need-returns Inv-loop μ-loop
 returns c =
-    let the-args = c .before .before .before .before .before .before .before .before .before .before .before .args in
     let the-pre = c .before .before .before .before .before .before .before .before .before .before .before .pre in
     let the-loop = c .before .loop in
     let the-loop-test = c .loop-test in
-    fill-end (the-args .pattern .now) (the-args .template .now) (the-args .line .now) (the-pre .1 .short) (the-args .buffer .now) (the-loop .from) (the-loop .last) (the-loop .goes) (the-loop-test .left) (the-loop .buffer) (the-loop .at) (the-loop .inv .1)
+    fill-end (the-pre .1 .short) (the-loop-test .left) (the-loop .inv .1)
 
 pub write-spec : {M : Type 1} → statement M
 write-spec =

@@ -57,7 +57,7 @@ returns c =
     let the-append = c .before .before .before .before .before .before .before .before .before .before .before .append in
     let the-put-where = c .before .before .before .before .before .before .before .put-where in
     let the-append2 = c .before .before .append2 in
-    turn-written (the-args .template .now) (the-args .line .now) (piecesOf (the-args .template .now)) (the-args .from) (asTurn (the-args .turn)) (the-pre .1) (the-args .buffer .now) (the-append .last .1 .0) (the-put-where .last .1 .1 .1 .1 .0) (the-append2 .last .1 .0) (the-args .at) (the-append .result) (the-put-where .result) (the-append2 .result) (the-append .ensures) (the-put-where .ensures) (the-append2 .ensures)
+    turn-written (the-args .template .now) (the-args .line .now) (piecesOf (the-args .template .now)) (the-args .from) (asTurn (the-args .turn)) (the-pre .1) (the-append .ensures) (the-put-where .ensures) (the-append2 .ensures)
 
 pub write-turn-spec : {M : Type 1} → statement M
 write-turn-spec =
