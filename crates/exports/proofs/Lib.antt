@@ -2,3 +2,4 @@
 pub mod Numbered
 pub mod Telling
 pub mod Keeping
+pub mod OneReply
