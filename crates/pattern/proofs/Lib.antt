@@ -4,3 +4,4 @@ pub mod Pairs
 pub mod Walking
 pub mod Turning
 pub mod Answering
+pub mod Impostors

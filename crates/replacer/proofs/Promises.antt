@@ -1,5 +1,5 @@
 -- What the promise of replace-all allows and shuts out: one answer and one buffer for each call, and on 01's case 14 no answer that replaces
--- the first match only.
+-- the first match only, refuses, or replaces nothing.
 use Prim.Native.Nat.{ℕ}
 use mathlib.Core.Path.{_≡_, sym, ap, _∙_}
 use mathlib.Core.List.{List, [], _∷_}
@@ -76,4 +76,15 @@ first-only-counted long steps after promise =
 pub first-only-written : (r : Replaced) → Replaces words turned names (replicate 24 7) r firstTurned → ⊥
 first-only-written r promise =
     let wrong : _≡_ {A = ℕ} 65 84 = ap (λ (l : List ℕ). getD l 12 0) (promise .buffer) in
+    omega arith
+
+-- and so do one that refuses everything, and one that replaces nothing
+pub refuses-all : (number place : ℕ) (after : List ℕ) → Replaces words turned names (replicate 24 7) (Replaced.Refused number place) after → ⊥
+refuses-all number place after promise =
+    let wrong : _≡_ {A = ℕ} 0 2 = ap replacedIn (promise .answer) in
+    omega arith
+
+pub replaces-none : (long steps : ℕ) (after : List ℕ) → Replaces words turned names (replicate 24 7) (Replaced.Done long 0 steps) after → ⊥
+replaces-none long steps after promise =
+    let wrong : _≡_ {A = ℕ} 0 2 = ap replacedIn (promise .answer) in
     omega arith

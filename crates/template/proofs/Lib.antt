@@ -3,3 +3,4 @@ pub mod Records
 pub mod Walks
 pub mod Pieces
 pub mod Promises
+pub mod Impostors
