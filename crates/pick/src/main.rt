@@ -128,11 +128,7 @@ fn next_line(
                 printed,
             );
             Progress {
-                window: Window {
-                    start: end,
-                    end: window.end,
-                    ended: window.ended,
-                },
+                window: window::behind(window, end),
                 printed: after,
                 goes: true,
             }
@@ -253,11 +249,7 @@ fn whole_job(
         Next::Broken => job::print_broken(out, 0, false),
         Next::Body { start, end } => {
             let n = keep(bytes, &buffer[start..end]);
-            let rest = Window {
-                start: end,
-                end: window.end,
-                ended: window.ended,
-            };
+            let rest = window::behind(window, end);
             with_pattern(
                 buffer,
                 rest,

@@ -1,6 +1,7 @@
 // The job on standard input: records read in blocks through a window of a lent buffer, so that no length of the job is too long.
 use job::Job;
 use libc::STDIN_FILENO;
+ghost use mathlib.Core.Path.{_≡_};
 ghost use Prim.Native.Nat.{_≤_, _-_};
 ghost use lib.ListN.{length};
 
@@ -11,6 +12,17 @@ pub struct Window {
     pub start: usize,
     pub end: usize,
     pub ended: bool,
+}
+
+// What is left of the window behind a record that ends there.
+pub fn behind(window: Window, end: usize) -> Window
+    ensures { λ r. ⌜ (r .start ≡ end) × (r .end ≡ window .end) ⌝ }
+{
+    Window {
+        start: end,
+        end: window.end,
+        ended: window.ended,
+    }
 }
 
 // Moves the window's bytes to the buffer's start, so that there is room behind them.

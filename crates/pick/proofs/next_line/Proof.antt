@@ -59,6 +59,9 @@ answer-line-requires c κs =
     let given = the-pre in
     record { ready = given .ready; short = simp (length-take, length-drop) (omega (arith, shown)); starts = omega arith; scratch = given .scratch }
 
+behind-requires : tie.Need-behind-requires
+behind-requires c κs = search needs
+
 same-length : tie.Need-same-length
 same-length c = search needs
 
@@ -76,7 +79,7 @@ returns-2 c = search needs
 
 same-length-4 : tie.Need-same-length-4
 same-length-4 c =
-    let the-buffer = c .before .before .before .before .before .before .before .before .before .before .before .before .before .before .before .before .before .before .before .before .before .before .before .before .buffer in
+    let the-buffer = c .before .before .before .before .before .before .before .before .before .before .before .before .before .before .before .before .before .before .before .before .before .before .before .before .before .buffer in
     omega (arith, the-buffer .given)
 
 same-length-5 : tie.Need-same-length-5
@@ -96,11 +99,12 @@ same-length-9 c = search needs
 
 returns-3 : tie.Need-returns-3
 returns-3 c =
-    let the-start = c .before .before .before .before .before .before .before .before .before .before .before .before .before .before .before .before .before .before .before .start in
-    let the-next-record = c .before .before .before .before .before .before .before .before .before .before .before .before .before .before .before .before .before .before .before .before .before .next-record in
-    let the-ready = c .before .before .before .before .before .before .before .before .before .before .before .before .before .before .before .before .before .before .before .before .before .before .before .before .before .ready in
+    let the-start = c .before .before .before .before .before .before .before .before .before .before .before .before .before .before .before .before .before .before .before .before .start in
+    let the-next-record = c .before .before .before .before .before .before .before .before .before .before .before .before .before .before .before .before .before .before .before .before .before .before .next-record in
+    let the-ready = c .before .before .before .before .before .before .before .before .before .before .before .before .before .before .before .before .before .before .before .before .before .before .before .before .before .before .ready in
+    let the-behind = c .behind in
     let shown = rw (the-start .given .1) at (the-next-record .ensures) in
-    omega (arith, shown, the-ready .ensures)
+    omega (arith, shown, the-ready .ensures, the-behind .ensures)
 
 pub next-line-spec : {M : Type 1} → statement M
 next-line-spec =
@@ -116,6 +120,7 @@ next-line-spec =
     part-answer-line-start
     part-answer-line-end
     answer-line-requires
+    behind-requires
     same-length
     returns
     same-length-2

@@ -56,6 +56,9 @@ part-keep-end c =
 keep-requires : tie.Need-keep-requires
 keep-requires c κs = search needs
 
+behind-requires : tie.Need-behind-requires
+behind-requires c κs = search needs
+
 sub-with-pattern : tie.Need-sub-with-pattern
 sub-with-pattern c = search needs
 
@@ -67,11 +70,12 @@ part-with-pattern-end c = search needs
 
 with-pattern-requires : tie.Need-with-pattern-requires
 with-pattern-requires c κs =
-    let the-start = c .before .before .before .before .before .before .before .before .before .before .before .before .before .before .before .before .start in
-    let the-next-record = c .before .before .before .before .before .before .before .before .before .before .before .before .before .before .before .before .before .before .next-record in
-    let the-pre = c .before .before .before .before .before .before .before .before .before .before .before .before .before .before .before .before .before .before .before .before .before .before .before .before .before .before .before .before .before .before .before .before .pre in
-    let the-ready = c .before .before .before .before .before .before .before .before .before .before .before .before .before .before .before .before .before .before .before .before .before .before .ready in
-    let the-buffer = c .before .before .before .before .before .before .before .before .before .before .before .before .before .before .before .before .before .before .before .before .before .buffer in
+    let the-start = c .before .before .before .before .before .before .before .before .before .before .before .before .before .before .before .before .before .start in
+    let the-next-record = c .before .before .before .before .before .before .before .before .before .before .before .before .before .before .before .before .before .before .before .next-record in
+    let the-pre = c .before .before .before .before .before .before .before .before .before .before .before .before .before .before .before .before .before .before .before .before .before .before .before .before .before .before .before .before .before .before .before .before .before .pre in
+    let the-behind = c .before .before .before .before .before .before .before .before .before .behind in
+    let the-ready = c .before .before .before .before .before .before .before .before .before .before .before .before .before .before .before .before .before .before .before .before .before .before .before .ready in
+    let the-buffer = c .before .before .before .before .before .before .before .before .before .before .before .before .before .before .before .before .before .before .before .before .before .before .buffer in
     let shown = rw (the-start .given .1) at (the-next-record .ensures) in
     let given = the-pre in
     record {
@@ -80,8 +84,8 @@ with-pattern-requires c κs =
       taken-long = given .taken-long;
       lists-long = given .lists-long;
       pending-long = given .pending-long;
-      forward = omega (arith, shown);
-      inside = omega (arith, shown, the-ready .ensures, the-buffer .given);
+      forward = omega (arith, shown, the-behind .ensures);
+      inside = omega (arith, shown, the-ready .ensures, the-buffer .given, the-behind .ensures);
     }
 
 same-length : tie.Need-same-length
@@ -103,7 +107,9 @@ returns-2 : tie.Need-returns-2
 returns-2 c = search needs
 
 same-length-5 : tie.Need-same-length-5
-same-length-5 c = search needs
+same-length-5 c =
+    let the-buffer = c .before .before .before .before .before .before .before .before .before .before .before .before .before .before .before .before .before .before .before .before .before .before .before .before .before .before .before .before .before .before .before .before .before .before .before .before .before .buffer in
+    omega (arith, the-buffer .given)
 
 same-length-6 : tie.Need-same-length-6
 same-length-6 c = search needs
@@ -144,6 +150,7 @@ whole-job-spec =
     part-keep-start
     part-keep-end
     keep-requires
+    behind-requires
     sub-with-pattern
     part-with-pattern-start
     part-with-pattern-end
