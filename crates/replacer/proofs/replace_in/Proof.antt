@@ -29,7 +29,7 @@ returns c =
     let the-pre = c .before .before .before .before .before .before .before .before .before .before .before .before .before .before .before .before .before .before .before .before .before .before .before .before .pre in
     let the-if1 = c .if1 in
     let the-measure = c .before .before .before .before .before .before .before .before .before .before .measure in
-    refuses-measured (the-pre .0) (the-measure .ensures) (the-if1 .taken)
+    refuses-measured (the-pre .0) (the-measure .ensures) (omega (arith, the-if1 .taken))
 
 write-requires : tie.Need-write-requires
 write-requires c κs =
