@@ -22,7 +22,7 @@ use Rattle.matcher.specs.Promise.{Answers}
 use Rattle.matcher.proofs.Answering.{one-match, one-search}
 use Rattle.replacer.specs.declared.Replaced as replacing
 use Rattle.replacer.specs.Answer as replaced
-use Rattle.replacer.proofs.Promises.{replace-one}
+use Rattle.replacer.proofs.Promises.{one-replaced}
 use Rattle.exports.specs.Told.{Tells, checkNumbers, foundNumbers, replacedNumbers}
 use Rattle.exports.specs.Memory.{machineNumbers, scratchNumbers, searchesIn, BuildsIn}
 use Rattle.exports.specs.Replies.{Untouched, CheckReplies, MatchReplies, SearchReplies, ReplaceReplies, PieceReplies, builtNumbers, BuildReplies, RunReplies}
@@ -65,46 +65,46 @@ answers-one true pattern line lent p q = one-search p q
 
 -- ---- the calls
 
-pub check-one : {pattern out : List ℕ} {status status′ : ℕ} {after after′ : List ℕ} → CheckReplies pattern out status after → CheckReplies pattern out status′ after′
+pub one-check-reply : {pattern out : List ℕ} {status status′ : ℕ} {after after′ : List ℕ} → CheckReplies pattern out status after → CheckReplies pattern out status′ after′
     → (status ≡ status′) × (after ≡ after′)
-check-one {out = out} p q =
+one-check-reply {out = out} p q =
     by-length (length out) 3 (λ h. untouched-one (p .short h) (q .short h))
     (λ h. let t = p .told h in let u = q .told h in told-one (λ (r : checking.Answer). checkNumbers (answerOf r)) (one-answer (t .1) (u .1)) (t .2) (u .2))
 
-pub match-one : {pattern line table table′ table″ out : List ℕ} {status status′ : ℕ} {after after′ : List ℕ}
+pub one-match-reply : {pattern line table table′ table″ out : List ℕ} {status status′ : ℕ} {after after′ : List ℕ}
     → MatchReplies pattern line table table′ out status after → MatchReplies pattern line table table″ out status′ after′
     → (status ≡ status′) × (after ≡ after′) × (table′ ≡ table″)
-match-one {out = out} p q =
+one-match-reply {out = out} p q =
     by-length (length out) 2 (λ h. left-one (p .short h) (q .short h))
     (λ h. let t = p .told h in let u = q .told h in told-left (λ (r : matching.Answer). foundNumbers (found.answerOf r)) (one-match (t .1) (u .1)) (t .2) (u .2))
 
-pub search-one : {pattern line table table′ table″ out : List ℕ} {status status′ : ℕ} {after after′ : List ℕ}
+pub one-search-reply : {pattern line table table′ table″ out : List ℕ} {status status′ : ℕ} {after after′ : List ℕ}
     → SearchReplies pattern line table table′ out status after → SearchReplies pattern line table table″ out status′ after′
     → (status ≡ status′) × (after ≡ after′) × (table′ ≡ table″)
-search-one {out = out} p q =
+one-search-reply {out = out} p q =
     by-length (length out) 2 (λ h. left-one (p .short h) (q .short h))
     (λ h. let t = p .told h in let u = q .told h in told-left (λ (r : matching.Answer). foundNumbers (found.answerOf r)) (one-search (t .1) (u .1)) (t .2) (u .2))
 
-pub replace-reply-one : {pattern template line buffer buffer′ buffer″ out : List ℕ} {status status′ : ℕ} {after after′ : List ℕ}
+pub one-replace-reply : {pattern template line buffer buffer′ buffer″ out : List ℕ} {status status′ : ℕ} {after after′ : List ℕ}
     → ReplaceReplies pattern template line buffer buffer′ out status after → ReplaceReplies pattern template line buffer buffer″ out status′ after′
     → (status ≡ status′) × (after ≡ after′) × (buffer′ ≡ buffer″)
-replace-reply-one {pattern} {template} {line} {buffer} {buffer′} {buffer″} {out} p q =
+one-replace-reply {pattern} {template} {line} {buffer} {buffer′} {buffer″} {out} p q =
     by-length (length out) 3 (λ h. left-one (p .short h) (q .short h))
     (λ h.
     let t = p .told h in
     let u = q .told h in
     told-left (λ (r : replacing.Replaced). replacedNumbers (replaced.answerOf r))
-    (replace-one pattern template line buffer (t .0) (u .0) buffer′ buffer″ (t .1) (u .1)) (t .2) (u .2))
+    (one-replaced pattern template line buffer (t .0) (u .0) buffer′ buffer″ (t .1) (u .1)) (t .2) (u .2))
 
-pub piece-reply-one : {template line table : List ℕ} {number : ℕ} {out : List ℕ} {status status′ : ℕ} {after after′ : List ℕ}
+pub one-piece-reply : {template line table : List ℕ} {number : ℕ} {out : List ℕ} {status status′ : ℕ} {after after′ : List ℕ}
     → PieceReplies template line table number out status after → PieceReplies template line table number out status′ after′ → (status ≡ status′) × (after ≡ after′)
-piece-reply-one {out = out} p q =
+one-piece-reply {out = out} p q =
     by-length (length out) 3 (λ h. untouched-one (p .short h) (q .short h)) (λ h. tells-one (p .told h) (q .told h))
 
-pub run-one : {pattern machine line : List ℕ} {scratch : ℕ} {table table′ table″ out : List ℕ} {status status′ : ℕ} {after after′ : List ℕ}
+pub one-run-reply : {pattern machine line : List ℕ} {scratch : ℕ} {table table′ table″ out : List ℕ} {status status′ : ℕ} {after after′ : List ℕ}
     → RunReplies pattern machine line scratch table table′ out status after → RunReplies pattern machine line scratch table table″ out status′ after′
     → (status ≡ status′) × (after ≡ after′) × (table′ ≡ table″)
-run-one {pattern} {machine} {line} {scratch} {table} {out = out} p q =
+one-run-reply {pattern} {machine} {line} {scratch} {table} {out = out} p q =
     by-length (length out) 2 (λ h. left-one (p .short h) (q .short h))
     (λ h. by-length (length machine) machineNumbers (λ k. left-one (p .small k) (q .small k))
     (λ k. by-length scratch scratchNumbers (λ l. left-one (p .narrow l) (q .narrow l))
@@ -132,10 +132,10 @@ module _ (pattern : List ℕ) (searches : Bool) where
       (h .deep-is ∙ m .deep-is ∙ ap (λ (s : Bool). depth (wrapped s (m .tree))) (h .searches-is)) (h .many-are)
       ∙ sym (ap (λ (c : Checked Pattern). c >>= machineTold) (m .found))
 
-pub build-one : {pattern : List ℕ} {searches : Bool} {machine machine′ machine″ out : List ℕ} {status status′ : ℕ} {after after′ : List ℕ}
+pub one-build-reply : {pattern : List ℕ} {searches : Bool} {machine machine′ machine″ out : List ℕ} {status status′ : ℕ} {after after′ : List ℕ}
     → BuildReplies pattern searches machine machine′ out status after → BuildReplies pattern searches machine machine″ out status′ after′
     → (status ≡ status′) × (after ≡ after′)
-build-one {pattern} {searches} {machine} {machine′} {machine″} {out} p q =
+one-build-reply {pattern} {searches} {machine} {machine′} {machine″} {out} p q =
     by-length (length out) 3 (λ h. untouched-one (p .short h .0) (q .short h .0))
     (λ h. by-length (length machine) machineNumbers (λ k. untouched-one (p .small k .0) (q .small k .0))
     (λ k.

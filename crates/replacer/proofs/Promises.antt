@@ -26,18 +26,18 @@ stepsIn (refused number place) = 0
 stepsIn (accepted r) = r .steps
 
 -- no two answers are read alike
-pub answerOf-injective : (a b : Replaced) → answerOf a ≡ answerOf b → a ≡ b
-answerOf-injective (Replaced.Refused n p) (Replaced.Refused m q) is = cc
-answerOf-injective (Replaced.Refused n p) (Replaced.Done l r s) is = cc
-answerOf-injective (Replaced.Done l r s) (Replaced.Refused n p) is = cc
-answerOf-injective (Replaced.Done l r s) (Replaced.Done l′ r′ s′) is =
+pub answers-differ : (a b : Replaced) → answerOf a ≡ answerOf b → a ≡ b
+answers-differ (Replaced.Refused n p) (Replaced.Refused m q) is = cc
+answers-differ (Replaced.Refused n p) (Replaced.Done l r s) is = cc
+answers-differ (Replaced.Done l r s) (Replaced.Refused n p) is = cc
+answers-differ (Replaced.Done l r s) (Replaced.Done l′ r′ s′) is =
     λ i. Replaced.Done (ap lengthIn is i) (ap replacedIn is i) (ap stepsIn is i)
 
 -- the promise allows one answer and one buffer
-pub replace-one : (pattern template line lent : List ℕ) (a b : Replaced) (after after′ : List ℕ) → Replaces pattern template line lent a after
+pub one-replaced : (pattern template line lent : List ℕ) (a b : Replaced) (after after′ : List ℕ) → Replaces pattern template line lent a after
     → Replaces pattern template line lent b after′ → (a ≡ b) × (after ≡ after′)
-replace-one pattern template line lent a b after after′ first second =
-    (answerOf-injective a b (first .answer ∙ sym (second .answer)), first .buffer ∙ sym (second .buffer))
+one-replaced pattern template line lent a b after after′ first second =
+    (answers-differ a b (first .answer ∙ sym (second .answer)), first .buffer ∙ sym (second .buffer))
 
 -- ---- 01's case 14: ([A-Za-z]+) ([A-Za-z]+) by "$2, $1" in "Don Knuth; Alan Turing", into a buffer of 24 bytes
 
@@ -65,7 +65,7 @@ firstTurned =
 -- the promise there: both matches are replaced
 pub both-replaced : (r : Replaced) (after : List ℕ) → Replaces words turned names (replicate 24 7) r after
     → (r ≡ Replaced.Done 24 2 654) × (after ≡ bothTurned)
-both-replaced r after promise = (answerOf-injective r (Replaced.Done 24 2 654) (promise .answer), promise .buffer)
+both-replaced r after promise = (answers-differ r (Replaced.Done 24 2 654) (promise .answer), promise .buffer)
 
 -- so one that replaces the first match and copies the rest breaks it, by its count and by its output
 pub first-only-counted : (long steps : ℕ) (after : List ℕ) → Replaces words turned names (replicate 24 7) (Replaced.Done long 1 steps) after → ⊥

@@ -52,23 +52,23 @@ endOr other (refused number place) = other
 endOr other (accepted span) = span .end
 
 -- no two answers of the first call are read alike
-pub answerOf-injective : (a b : Answer) → answerOf a ≡ answerOf b → a ≡ b
-answerOf-injective (Answer.Refused n p) (Answer.Refused m q) is = cc
-answerOf-injective (Answer.Refused n p) (Answer.Template s e) is = cc
-answerOf-injective (Answer.Refused n p) (Answer.Line s e) is = cc
-answerOf-injective (Answer.Template s e) (Answer.Refused n p) is = cc
-answerOf-injective (Answer.Template s e) (Answer.Template t f) is = ap₂ Answer.Template (ap (startOr 0) is) (ap (endOr 0) is)
-answerOf-injective (Answer.Template s e) (Answer.Line t f) is = cc (ap (sourceOr fromLine) is)
-answerOf-injective (Answer.Line s e) (Answer.Refused n p) is = cc
-answerOf-injective (Answer.Line s e) (Answer.Template t f) is = cc (ap (sourceOr fromLine) is)
-answerOf-injective (Answer.Line s e) (Answer.Line t f) is = ap₂ Answer.Line (ap (startOr 0) is) (ap (endOr 0) is)
+pub answers-differ : (a b : Answer) → answerOf a ≡ answerOf b → a ≡ b
+answers-differ (Answer.Refused n p) (Answer.Refused m q) is = cc
+answers-differ (Answer.Refused n p) (Answer.Template s e) is = cc
+answers-differ (Answer.Refused n p) (Answer.Line s e) is = cc
+answers-differ (Answer.Template s e) (Answer.Refused n p) is = cc
+answers-differ (Answer.Template s e) (Answer.Template t f) is = ap₂ Answer.Template (ap (startOr 0) is) (ap (endOr 0) is)
+answers-differ (Answer.Template s e) (Answer.Line t f) is = cc (ap (sourceOr fromLine) is)
+answers-differ (Answer.Line s e) (Answer.Refused n p) is = cc
+answers-differ (Answer.Line s e) (Answer.Template t f) is = cc (ap (sourceOr fromLine) is)
+answers-differ (Answer.Line s e) (Answer.Line t f) is = ap₂ Answer.Line (ap (startOr 0) is) (ap (endOr 0) is)
 
 -- the first call's promise allows one answer
-pub piece-one : (template line table : List ℕ) (number : ℕ) (a b : Answer)
+pub one-piece : (template line table : List ℕ) (number : ℕ) (a b : Answer)
     → answerOf a ≡ pieceCall template line table number → answerOf b ≡ pieceCall template line table number → a ≡ b
-piece-one template line table number a b first second = answerOf-injective a b (first ∙ sym second)
+one-piece template line table number a b first second = answers-differ a b (first ∙ sym second)
 
 -- the second call's promise allows one answer: the same place and the same bytes, which are all of a reference but its ghost name
-pub part-one : (answer : Checked Span) (template line a b : RefT (List ℕ))
+pub one-part : (answer : Checked Span) (template line a b : RefT (List ℕ))
     → IsPart answer template line a → IsPart answer template line b → (ptr a ≡ ptr b) × (now a ≡ now b)
-part-one answer template line a b first second = (first .stands ∙ sym (second .stands), first .bytes ∙ sym (second .bytes))
+one-part answer template line a b first second = (first .stands ∙ sym (second .stands), first .bytes ∙ sym (second .bytes))
