@@ -3,3 +3,4 @@ pub mod Lists
 pub mod Walk
 pub mod Pace
 pub mod Position
+pub mod Course

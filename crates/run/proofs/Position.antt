@@ -17,9 +17,10 @@ use Rattle.visit.specs.Threads.{placeIn, rowsFrom, rowsIn, threadIn, threads, s
 use Rattle.visit.specs.Wired.{Wired}
 use Rattle.visit.specs.Shows.{Under}
 use Rattle.visit.proofs.Stores.{stored-long, stored-place, stored-rows}
-use Rattle.visit.proofs.Loop.{rewire}
+use Rattle.visit.proofs.Loop.{rewire, at-most-one}
 use Rattle.run.specs.Steps.{listOf, Stepping, Steps, Running, stoppedAs}
 use Rattle.run.proofs.Lists.{list-long, place-of, rows-of}
+use Rattle.run.proofs.Walk.{and-first, and-second}
 
 -- ---- how a position settles
 
@@ -151,14 +152,6 @@ module _ {code pattern line : List ℕ} {places start cells : ℕ} {seen taken c
   pub position-room : 21 * number + 21 ≤ length current
   position-room = omega (arith, q .few, q .current-long)
 
-  and-first : (a b : Bool) → true ≡ (a && b) → a ≡ true
-  and-first true b h = refl
-  and-first false b h = sym h
-
-  and-second : (a b : Bool) → true ≡ (a && b) → b ≡ true
-  and-second true b h = sym h
-  and-second false b h = cc
-
   -- it holds again at the next position
   pub position-next : goes ≡ true → (seen′ taken′ spare′ : List ℕ) (count steps′ : ℕ) (done goes′ : Bool)
       → length seen′ ≡ length seen → 21 * (places + 1) ≤ length spare′
@@ -217,10 +210,6 @@ module _ {code pattern line : List ℕ} {places start cells : ℕ} {seen taken c
   position-less go goes′ =
       let one : _≡_ {A = ℕ} (cond goes 1 0) 1 = ap (λ (g : Bool). cond g 1 0) go in
       omega (arith, q .within go, at-most-one goes′)
-    where
-      at-most-one : (g : Bool) → cond g 1 0 ≤ 1
-      at-most-one true = omega arith
-      at-most-one false = omega arith
 
 -- as many entries by another name
 pub at-cells : {code pattern line : List ℕ} {places start cells : ℕ} {seen taken current : List ℕ} {p number steps : ℕ} {matched goes : Bool} (more : ℕ) → cells ≡ more

@@ -18,7 +18,7 @@ use Rattle.visit.specs.Threads.{placeIn, rowsIn, threadIn, threads, left}
 use Rattle.visit.specs.Wired.{Wired}
 use Rattle.visit.specs.Shows.{Shows, Carried, Under, Arrives, Visits}
 use Rattle.visit.proofs.Stamps.{left-all}
-use Rattle.visit.proofs.Loop.{rewire}
+use Rattle.visit.proofs.Loop.{rewire, at-most-one}
 use Rattle.run.specs.Steps.{Stepping, Steps}
 
 -- ---- the definition's visits
@@ -109,17 +109,14 @@ walk-first code pattern line places p seen taken from number list pending steps 
   };
 }
 
-and-first : (a b : Bool) → true ≡ (a && b) → a ≡ true
+-- what a test of two says of each
+pub and-first : (a b : Bool) → true ≡ (a && b) → a ≡ true
 and-first true b h = refl
 and-first false b h = sym h
 
-and-second : (a b : Bool) → true ≡ (a && b) → b ≡ true
+pub and-second : (a b : Bool) → true ≡ (a && b) → b ≡ true
 and-second true b h = sym h
 and-second false b h = cc
-
-at-most-one : (g : Bool) → cond g 1 0 ≤ 1
-at-most-one true = omega arith
-at-most-one false = omega arith
 
 module _ {code pattern line : List ℕ} {places p : ℕ} {seen₀ taken₀ from : List ℕ} {number : ℕ} {list₀ : List ℕ} {steps₀ : ℕ}
     {seen taken list : List ℕ} {i count steps : ℕ} {done goes : Bool}

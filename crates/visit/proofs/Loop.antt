@@ -43,9 +43,6 @@ rewire {places = places} more e w = record {
 
 -- ---- how far a branch has come
 
-reach-zero : (x y : ℕ) → reach 0 x ≡ reach 0 y
-reach-zero x y = refl
-
 reach-high : (level x : ℕ) → reach (suc level) x ≡ x
 reach-high level x = ap (λ (b : Bool). cond b 0 x) (eqb·suc-zero level)
 
@@ -89,7 +86,8 @@ never f =
     let one : _≡_ {A = ℕ} 0 1 = ap (λ (b : Bool). cond b 1 0) f in
     absurd (omega arith)
 
-at-most-one : (g : Bool) → cond g 1 0 ≤ 1
+-- a flag counts at most once in a measure
+pub at-most-one : (g : Bool) → cond g 1 0 ≤ 1
 at-most-one true = omega arith
 at-most-one false = omega arith
 

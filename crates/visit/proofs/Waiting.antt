@@ -1,58 +1,38 @@
 -- The branches that wait: what stands in their memory, and why two for each place are the most. A branch that waits on level 0 belongs to a pair on level 0
 -- that is seen; above level 0 the places only go forward from one branch to the next.
 use Prim.Native.Nat.{ℕ, zero, suc, _+_, _*_, _≤_, _<_}
-use mathlib.Core.Path.{_≡_, refl, sym, ap, _∙_, subst}
-use mathlib.Core.Bool.{Bool, true, false, cond}
+use mathlib.Core.Path.{_≡_, refl, ap, _∙_}
+use mathlib.Core.Bool.{false, cond}
 use mathlib.Core.List.{List, [], _∷_}
 use native.Mathlib.Omega.{arith}
-use borrow.Author.Tests.{eq-eqb}
 use lib.Dec.{eqb}
-use lib.ListN.{length, getD, set, length-set}
-use lib.Seq.{getD-set-same, getD-set-other}
+use lib.ListN.{length, getD, set, take, length-set, length-take}
+use lib.Seq.{getD-set-same, getD-set-other, take-set-lt, take-set-le, getD-take}
 use Rattle.paper.specs.Rows.{Rows}
 use Rattle.paper.specs.Machine.{Thread, at}
-use Rattle.visit.specs.Threads.{rowsFrom, waited}
+use Rattle.visit.specs.Threads.{left, rowsFrom, waited}
+use Rattle.visit.proofs.Stamps.{left-all, left-mark}
 use Rattle.visit.proofs.Stores.{stored-long, stored-before, stored-place, stored-rows, same-part}
 
 -- ---- the pairs on level 0 that are not seen
 
 -- how many of the first entries of a table do not have this stamp
 abbrev pub leftLow : ℕ → ℕ → List ℕ → ℕ
-leftLow zero stamp xs = 0
-leftLow (suc n) stamp [] = 0
-leftLow (suc n) stamp (x ∷ xs) = cond (eqb x stamp) (leftLow n stamp xs) (suc (leftLow n stamp xs))
+leftLow n stamp table = left stamp (take n table)
 
 pub low-most : (n stamp : ℕ) (xs : List ℕ) → leftLow n stamp xs ≤ n
-low-most zero stamp xs = omega arith
-low-most (suc n) stamp [] = omega arith
-low-most (suc n) stamp (x ∷ xs) = look (eqb x stamp) (low-most n stamp xs)
-  where
-    look : (b : Bool) → leftLow n stamp xs ≤ n → cond b (leftLow n stamp xs) (suc (leftLow n stamp xs)) ≤ suc n
-    look true h = omega arith
-    look false h = omega arith
+low-most n stamp xs = omega (arith, left-all stamp (take n xs), length-take n xs)
 
 -- one of them that gets the stamp is one less
 pub low-mark : (n stamp : ℕ) (xs : List ℕ) (i : ℕ) → i < n → i < length xs → eqb (getD xs i 0) stamp ≡ false
     → suc (leftLow n stamp (set xs i stamp)) ≡ leftLow n stamp xs
-low-mark zero stamp xs i low h e = absurd (omega arith)
-low-mark (suc n) stamp [] i low h e = absurd (omega arith)
-low-mark (suc n) stamp (x ∷ xs) zero low h e =
-    ap (λ (b : Bool). suc (cond b (leftLow n stamp xs) (suc (leftLow n stamp xs)))) (eq-eqb stamp stamp refl)
-    ∙ sym (ap (λ (b : Bool). cond b (leftLow n stamp xs) (suc (leftLow n stamp xs))) e)
-low-mark (suc n) stamp (x ∷ xs) (suc i) low h e = look (eqb x stamp) (low-mark n stamp xs i (omega arith) (omega arith) e)
-  where
-    look : (b : Bool) → suc (leftLow n stamp (set xs i stamp)) ≡ leftLow n stamp xs
-        → suc (cond b (leftLow n stamp (set xs i stamp)) (suc (leftLow n stamp (set xs i stamp)))) ≡ cond b (leftLow n stamp xs) (suc (leftLow n stamp xs))
-    look true h = h
-    look false h = ap suc h
+low-mark n stamp xs i low h e =
+    ap (λ (l : List ℕ). suc (left stamp l)) (take-set-lt n xs i stamp low)
+    ∙ left-mark stamp (take n xs) i (omega (arith, length-take n xs)) (ap (λ (x : ℕ). eqb x stamp) (getD-take n xs i 0 low) ∙ e)
 
 -- an entry behind them changes nothing
 pub low-other : (n stamp : ℕ) (xs : List ℕ) (i : ℕ) → n ≤ i → leftLow n stamp (set xs i stamp) ≡ leftLow n stamp xs
-low-other zero stamp xs i h = refl
-low-other (suc n) stamp [] i h = refl
-low-other (suc n) stamp (x ∷ xs) zero h = absurd (omega arith)
-low-other (suc n) stamp (x ∷ xs) (suc i) h =
-    ap (λ (m : ℕ). cond (eqb x stamp) m (suc m)) (low-other n stamp xs i (omega arith))
+low-other n stamp xs i h = ap (left stamp) (take-set-le n xs i stamp h)
 
 -- ---- the branches in their memory
 

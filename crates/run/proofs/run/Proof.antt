@@ -1,14 +1,11 @@
--- Each turn is one position and keeps `Position`; the two lists change places.
-use Prim.Native.Nat.{ℕ, _+_, _-_, _*_, _≤_, _<_}
-use mathlib.Core.Path.{_≡_, refl, sym, ap, _∙_, subst}
-use mathlib.Core.Bool.{cond, not}
-use mathlib.Core.List.{List}
+-- Each turn is one position and keeps `Course`; the two lists are exchanged.
+use Prim.Native.Nat.{_+_, _-_}
+use mathlib.Core.Path.{_∙_}
+use mathlib.Core.Bool.{cond}
 use lib.ListN.{length}
 use native.Mathlib.Omega.{arith}
 use borrow.Author.Needs.{needs}
-use Rattle.run.specs.Steps.{listOf, stoppedAs}
-use Rattle.run.proofs.Lists.{begins-most, list-long, thread-room, rows-of}
-use Rattle.run.proofs.Position.{Position, position-first, position-asked, position-next, position-last, position-less, at-cells}
+use Rattle.run.proofs.Course.{Course, course-first, course-room, course-asked, course-early, course-less, course-next, course-winner, course-rows}
 use Rattle.run.proofs.run.Statement.{statement}
 use Rattle.run.proofs.run.Tie as tie
 use Rattle.run.proofs.run.Reads as reads
@@ -22,13 +19,13 @@ use Rattle.visit.proofs.store.Reads as store-reads
 use Rattle.visit.proofs.wide.Reads as wide-reads
 
 abbrev Inv-loop : tie.InvT-loop
-Inv-loop code pattern line seen₀ taken₀ lists₀ pending₀ places start at₀ number₀ steps₀ matched₀ second₀ goes₀ seen taken lists pending at number steps matched second goes =
-    Position code pattern line places start (length seen₀) seen taken (listOf places second lists) at number steps matched goes
-    × (length lists ≡ length lists₀) × (length pending ≡ length pending₀) × (length taken ≡ length taken₀)
-    × (2 * (21 * (places + 1)) ≤ length lists₀) × (22 * (2 * places) ≤ length pending₀)
+Inv-loop code pattern line seen₀ taken₀ lists₀ pending₀ places start at₀ number₀ steps₀ matched₀ second₀ goes₀
+    seen taken lists pending at number steps matched second goes =
+    Course code pattern line places start seen₀ taken₀ lists₀ pending₀ seen taken lists pending at number steps matched second goes
 
 abbrev μ-loop : tie.MeasureT-loop
-μ-loop code pattern line seen₀ taken₀ lists₀ pending₀ places start at₀ number₀ steps₀ matched₀ second₀ goes₀ seen taken lists pending at number steps matched second goes =
+μ-loop code pattern line seen₀ taken₀ lists₀ pending₀ places start at₀ number₀ steps₀ matched₀ second₀ goes₀
+    seen taken lists pending at number steps matched second goes =
     (length line + 1 - at) + cond goes 1 0
 
 wipe-requires : tie.Need-wipe-requires Inv-loop μ-loop
@@ -49,14 +46,15 @@ loop-holds c =
     let the-pre = c .before .before .before .before .before .before .before .before .before .before .before .before .before .before .before .before .before .before .before .pre in
     let the-wipe2 = c .before .before .before .before .before .before .wipe2 in
     let the-store = c .before .before .store in
-    (at-cells (length (the-wipe .last .0)) (sym (the-wipe .kept .0)) (position-first (the-args .code .now) (the-args .pattern .now) (the-args .line .now) (the-args .places) (the-args .start) (the-args .seen .now) (the-args .taken .now) (the-args .lists .now) (the-args .pending .now) (the-pre) (the-wipe .last .0) (the-wipe2 .last .0) (the-store .last .0) (the-wipe .ensures) (the-wipe2 .ensures) (the-store .ensures)), refl, refl, refl, omega (arith, the-pre .lists-long, the-store .kept .0), the-pre .pending-long)
+    course-first (the-args .code .now) (the-args .pattern .now) (the-args .line .now) (the-args .places) (the-args .start)
+    (the-args .seen .now) (the-args .taken .now) (the-args .lists .now) (the-args .pending .now) the-pre
+    (the-wipe .last .0) (the-wipe2 .last .0) (the-store .last .0) (the-store .kept .0) (the-wipe .ensures) (the-wipe2 .ensures) (the-store .ensures)
 
 step-requires : tie.Need-step-requires Inv-loop μ-loop
 step-requires c κs =
     let the-loop = c .before .before .before .before .before .loop in
     let the-loop-test = c .before .before .before .before .loop-test in
-    let the-args = c .before .before .before .before .before .before .before .before .before .before .before .before .before .before .before .before .before .before .before .before .before .before .before .before .before .args in
-    (position-asked (the-loop .inv .0) (the-loop-test .taken) (listOf (the-args .places) (not (the-loop .second)) (the-loop .lists)) (the-loop .pending) (omega (arith, list-long (the-args .places) (not (the-loop .second)) (the-loop .lists) (omega (arith, the-loop .inv .1, the-loop .inv .4)))) (omega (arith, the-loop .inv .2, the-loop .inv .5)), omega (arith, the-loop .inv .1, the-loop .inv .4))
+    (course-asked (the-loop .inv) (the-loop-test .taken), course-room (the-loop .inv))
 
 wide-requires : tie.Need-wide-requires Inv-loop μ-loop
 wide-requires c κs = search needs
@@ -68,85 +66,89 @@ add-at : tie.Need-add-at Inv-loop μ-loop
 add-at c =
     let the-loop = c .before .before .before .before .before .before .before .before .before .before .before .before .before .before .before .before .loop in
     let the-loop-test = c .before .before .before .before .before .before .before .before .before .before .before .before .before .before .before .loop-test in
-    omega (arith, the-loop .inv .0 .within (the-loop-test .taken), the-loop .inv .0 .line-long)
+    omega (arith, course-early (the-loop .inv) (the-loop-test .taken))
 
 loop-less : tie.Need-loop-less Inv-loop μ-loop
 loop-less c =
     let the-loop = c .before .before .before .before .before .before .before .before .before .before .before .before .before .before .before .before .loop in
     let the-loop-test = c .before .before .before .before .before .before .before .before .before .before .before .before .before .before .before .loop-test in
     let the-proceeds = c .proceeds in
-    position-less (the-loop .inv .0) (the-loop-test .taken) (the-proceeds .result)
+    course-less (the-loop .inv) (the-loop-test .taken) (the-proceeds .result)
 
 loop-again : tie.Need-loop-again Inv-loop μ-loop
 loop-again c =
     let the-loop = c .before .before .before .before .before .before .before .before .before .before .before .before .before .before .before .before .loop in
     let the-loop-test = c .before .before .before .before .before .before .before .before .before .before .before .before .before .before .before .loop-test in
     let the-step = c .before .before .before .before .before .before .before .before .before .before .step in
-    let the-args = c .before .before .before .before .before .before .before .before .before .before .before .before .before .before .before .before .before .before .before .before .before .before .before .before .before .before .before .before .before .before .before .before .before .before .before .before .args in
     let the-proceeds = c .proceeds in
     let the-wide = c .before .wide in
-    (position-next (the-loop .inv .0) (the-loop-test .taken) (the-step .last .1 .1 .1 .0) (the-step .last .1 .1 .1 .1 .0) (listOf (the-args .places) (not (the-loop .second)) (the-step .last .1 .1 .1 .1 .1 .0)) (the-step .result .count) (the-step .result .steps) (the-step .result .done) (the-proceeds .result) (the-step .kept .1 .1 .1 .0) (omega (arith, list-long (the-args .places) (not (the-loop .second)) (the-step .last .1 .1 .1 .1 .1 .0) (omega (arith, the-step .kept .1 .1 .1 .1 .1 .0, the-loop .inv .1, the-loop .inv .4)))) (the-step .ensures) (the-wide .result) (the-wide .ensures) (the-proceeds .ensures), the-step .kept .1 .1 .1 .1 .1 .0 ∙ the-loop .inv .1, the-step .kept .1 .1 .1 .1 .1 .1 .0 ∙ the-loop .inv .2, the-step .kept .1 .1 .1 .1 .0 ∙ the-loop .inv .3, the-loop .inv .4, the-loop .inv .5)
+    course-next (the-loop .inv) (the-loop-test .taken)
+    (the-step .last .1 .1 .1 .0) (the-step .last .1 .1 .1 .1 .0) (the-step .last .1 .1 .1 .1 .1 .0) (the-step .last .1 .1 .1 .1 .1 .1 .0)
+    (the-step .result .count) (the-step .result .steps) (the-step .result .done) (the-proceeds .result)
+    (the-step .kept .1 .1 .1 .0) (the-step .kept .1 .1 .1 .1 .0) (the-step .kept .1 .1 .1 .1 .1 .0) (the-step .kept .1 .1 .1 .1 .1 .1 .0)
+    (the-step .ensures) (the-wide .result) (the-wide .ensures) (the-proceeds .ensures)
 
 add-list-at : tie.Need-add-list-at Inv-loop μ-loop
 add-list-at c =
     let the-loop = c .before .loop in
-    let the-good = c .before .before .before .before .before .before .before .before .before .before .before .before .before .before .before .before .before .before .before .before .before .good in
-    omega (arith, the-loop .inv .4, the-good .1 .1 .1 .1 .1 .0 .0)
+    let the-good = c .before .before .before .before .before .before .before .before .before .before .before .before .before .before .before .before .before .before
+    .before .before .before .good in
+    omega (arith, the-loop .inv .lists-long, the-good .1 .1 .1 .1 .1 .0 .0)
 
 mul-list-at : tie.Need-mul-list-at Inv-loop μ-loop
 mul-list-at c =
     let the-loop = c .before .loop in
-    let the-good = c .before .before .before .before .before .before .before .before .before .before .before .before .before .before .before .before .before .before .before .before .before .good in
-    omega (arith, the-loop .inv .4, the-good .1 .1 .1 .1 .1 .0 .0)
+    let the-good = c .before .before .before .before .before .before .before .before .before .before .before .before .before .before .before .before .before .before
+    .before .before .before .good in
+    omega (arith, the-loop .inv .lists-long, the-good .1 .1 .1 .1 .1 .0 .0)
 
 list-at-requires : tie.Need-list-at-requires Inv-loop μ-loop
 list-at-requires c κs = search needs
 
 mul-b : tie.Need-mul-b Inv-loop μ-loop
 mul-b c =
-    let the-args = c .before .before .before .before .before .before .before .before .before .before .before .before .before .before .before .before .before .before .before .before .before .before .args in
     let the-loop = c .before .before .loop in
     let the-list-at = c .list-at in
-    let the-good = c .before .before .before .before .before .before .before .before .before .before .before .before .before .before .before .before .before .before .before .before .before .before .good in
-    omega (arith, thread-room (the-args .places) (the-loop .second) (the-loop .lists) (omega (arith, the-loop .inv .1, the-loop .inv .4)) (the-list-at .result) (the-loop .number) (the-list-at .ensures) (omega (arith, the-loop .inv .0 .few)), the-loop .inv .1, the-good .1 .1 .1 .1 .1 .0 .0)
+    let the-good = c .before .before .before .before .before .before .before .before .before .before .before .before .before .before .before .before .before .before
+    .before .before .before .before .good in
+    omega (arith, course-winner (the-loop .inv) (the-list-at .result) (the-list-at .ensures), the-loop .inv .lists-same, the-good .1 .1 .1 .1 .1 .0 .0)
 
 add-b : tie.Need-add-b Inv-loop μ-loop
 add-b c =
-    let the-args = c .before .before .before .before .before .before .before .before .before .before .before .before .before .before .before .before .before .before .before .before .before .before .args in
     let the-loop = c .before .before .loop in
     let the-list-at = c .list-at in
-    let the-good = c .before .before .before .before .before .before .before .before .before .before .before .before .before .before .before .before .before .before .before .before .before .before .good in
-    omega (arith, thread-room (the-args .places) (the-loop .second) (the-loop .lists) (omega (arith, the-loop .inv .1, the-loop .inv .4)) (the-list-at .result) (the-loop .number) (the-list-at .ensures) (omega (arith, the-loop .inv .0 .few)), the-loop .inv .1, the-good .1 .1 .1 .1 .1 .0 .0)
+    let the-good = c .before .before .before .before .before .before .before .before .before .before .before .before .before .before .before .before .before .before
+    .before .before .before .before .good in
+    omega (arith, course-winner (the-loop .inv) (the-list-at .result) (the-list-at .ensures), the-loop .inv .lists-same, the-good .1 .1 .1 .1 .1 .0 .0)
 
 load-requires : tie.Need-load-requires Inv-loop μ-loop
 load-requires c κs =
-    let the-args = c .before .before .before .before .before .before .before .before .before .before .before .before .before .before .before .before .before .before .before .before .before .before .before .args in
     let the-loop = c .before .before .before .loop in
     let the-list-at = c .before .list-at in
-    thread-room (the-args .places) (the-loop .second) (the-loop .lists) (omega (arith, the-loop .inv .1, the-loop .inv .4)) (the-list-at .result) (the-loop .number) (the-list-at .ensures) (omega (arith, the-loop .inv .0 .few))
+    course-winner (the-loop .inv) (the-list-at .result) (the-list-at .ensures)
 
 same-length : tie.Need-same-length Inv-loop μ-loop
 same-length c =
     let the-loop = c .before .before .before .before .loop in
     let the-wipe = c .before .before .before .before .before .before .before .before .before .before .before .before .before .before .before .wipe in
-    the-loop .inv .0 .long ∙ the-wipe .kept .0
+    the-loop .inv .position .long ∙ the-wipe .kept .0
 
 same-length-2 : tie.Need-same-length-2 Inv-loop μ-loop
 same-length-2 c =
     let the-loop = c .before .before .before .before .loop in
     let the-wipe2 = c .before .before .before .before .before .before .before .before .before .before .before .wipe2 in
-    the-loop .inv .3 ∙ the-wipe2 .kept .0
+    the-loop .inv .taken-same ∙ the-wipe2 .kept .0
 
 same-length-3 : tie.Need-same-length-3 Inv-loop μ-loop
 same-length-3 c =
     let the-loop = c .before .before .before .before .loop in
     let the-store = c .before .before .before .before .before .before .before .store in
-    the-loop .inv .1 ∙ the-store .kept .0
+    the-loop .inv .lists-same ∙ the-store .kept .0
 
 same-length-4 : tie.Need-same-length-4 Inv-loop μ-loop
 same-length-4 c =
     let the-loop = c .before .before .before .before .loop in
-    the-loop .inv .2
+    the-loop .inv .pending-same
 
 returns : tie.Need-returns Inv-loop μ-loop
 returns c =
@@ -154,9 +156,11 @@ returns c =
     let the-loop-test = c .before .before .before .loop-test in
     let the-wipe = c .before .before .before .before .before .before .before .before .before .before .before .before .before .before .before .wipe in
     let the-load = c .load in
-    let the-args = c .before .before .before .before .before .before .before .before .before .before .before .before .before .before .before .before .before .before .before .before .before .before .before .before .args in
+    let the-args = c .before .before .before .before .before .before .before .before .before .before .before .before .before .before .before .before .before .before
+    .before .before .before .before .before .before .args in
     let the-list-at = c .before .before .list-at in
-    λ turns h. position-last (the-loop .inv .0) (the-loop-test .left) turns (subst (λ (n : ℕ). n < turns) (sym (the-wipe .kept .0)) h) ∙ ap (λ (r : List ℕ). stoppedAs (the-loop .matched) (the-loop .steps) r) (sym (the-load .ensures ∙ rows-of (the-args .places) (the-loop .second) (the-loop .lists) (omega (arith, the-loop .inv .1, the-loop .inv .4)) (the-list-at .result) (the-loop .number) (the-list-at .ensures) (omega (arith, the-loop .inv .0 .few))))
+    course-rows (the-loop .inv) (the-list-at .result) (the-list-at .ensures) (the-loop-test .left)
+    (length (the-args .seen .now)) (the-wipe .kept .0) (the-load .result) (the-load .ensures)
 
 pub run-spec : {M : Type 1} → statement M
 run-spec =

@@ -17,11 +17,13 @@ use Rattle.visit.proofs.visit.Reads as visit-reads
 use Rattle.visit.proofs.wide.Reads as wide-reads
 
 abbrev Inv-loop : tie.InvT-loop
-Inv-loop code pattern line seen₀ taken₀ lists₀ pending₀ second number places at before long from to end i₀ count₀ steps₀ done₀ goes₀ seen taken lists pending i count steps done goes =
+Inv-loop code pattern line seen₀ taken₀ lists₀ pending₀ second number places at before long from to end i₀ count₀ steps₀ done₀ goes₀
+    seen taken lists pending i count steps done goes =
     Pace code pattern line places at seen₀ taken₀ lists₀ pending₀ second number before seen taken lists pending i count steps done goes
 
 abbrev μ-loop : tie.MeasureT-loop
-μ-loop code pattern line seen₀ taken₀ lists₀ pending₀ second number places at before long from to end i₀ count₀ steps₀ done₀ goes₀ seen taken lists pending i count steps done goes =
+μ-loop code pattern line seen₀ taken₀ lists₀ pending₀ second number places at before long from to end i₀ count₀ steps₀ done₀ goes₀
+    seen taken lists pending i count steps done goes =
     (number - i) + cond goes 1 0
 
 add-long : tie.Need-add-long Inv-loop μ-loop
@@ -48,7 +50,9 @@ loop-holds : tie.Need-loop-holds Inv-loop μ-loop
 loop-holds c =
     let the-args = c .before .before .before .before .before .before .before .before .before .args in
     let the-pre = c .before .before .before .before .before .before .before .before .before .pre in
-    pace-first (the-args .code .now) (the-args .pattern .now) (the-args .line .now) (the-args .places) (the-args .at) (the-args .seen .now) (the-args .taken .now) (the-args .lists .now) (the-args .pending .now) (the-args .second) (the-args .number) (the-args .before) (the-pre .0) (the-pre .1)
+    pace-first (the-args .code .now) (the-args .pattern .now) (the-args .line .now) (the-args .places) (the-args .at)
+    (the-args .seen .now) (the-args .taken .now) (the-args .lists .now) (the-args .pending .now)
+    (the-args .second) (the-args .number) (the-args .before) (the-pre .0) (the-pre .1)
 
 mul-b : tie.Need-mul-b Inv-loop μ-loop
 mul-b c =
@@ -117,14 +121,17 @@ visit-requires c κs =
     let the-list-at = c .before .before .before .before .before .before .before .before .before .before .before .list-at in
     let the-wide = c .before .before .before .before .before .before .wide in
     let the-list-at2 = c .before .before .before .before .before .before .before .before .before .before .list-at2 in
-    pace-asked (the-loop .inv) (the-loop-test .taken) (the-list-at .result) (the-list-at .ensures) (the-wide .result) (the-wide .ensures) (the-list-at2 .result) (the-list-at2 .ensures)
+    pace-asked (the-loop .inv) (the-loop-test .taken) (the-list-at .result) (the-list-at .ensures)
+    (the-wide .result) (the-wide .ensures) (the-list-at2 .result) (the-list-at2 .ensures)
 
 add-i : tie.Need-add-i Inv-loop μ-loop
 add-i c =
     let the-loop = c .before .before .before .before .before .before .before .before .before .before .before .before .before .before .before .before .before .before .loop in
     let the-loop-test = c .before .before .before .before .before .before .before .before .before .before .before .before .before .before .before .before .before .loop-test in
-    let the-list-at = c .before .before .before .before .before .before .before .before .before .before .before .before .before .before .before .before .before .before .before .before .list-at in
-    let the-good = c .before .before .before .before .before .before .before .before .before .before .before .before .before .before .before .before .before .before .before .before .before .before .before .before .before .before .before .before .good in
+    let the-list-at = c .before .before .before .before .before .before .before .before .before .before .before .before .before .before .before .before .before .before
+    .before .before .list-at in
+    let the-good = c .before .before .before .before .before .before .before .before .before .before .before .before .before .before .before .before .before .before
+    .before .before .before .before .before .before .before .before .before .before .good in
     omega (arith, pace-room (the-loop .inv) (the-loop-test .taken) (the-list-at .result) (the-list-at .ensures), the-loop .inv .lists-same, the-good .1 .1 .1 .1 .1 .0 .0)
 
 more-requires : tie.Need-more-requires Inv-loop μ-loop
@@ -141,14 +148,21 @@ loop-again : tie.Need-loop-again Inv-loop μ-loop
 loop-again c =
     let the-loop = c .before .before .before .before .before .before .before .before .before .before .before .before .before .before .before .before .before .before .before .loop in
     let the-loop-test = c .before .before .before .before .before .before .before .before .before .before .before .before .before .before .before .before .before .before .loop-test in
-    let the-list-at = c .before .before .before .before .before .before .before .before .before .before .before .before .before .before .before .before .before .before .before .before .before .list-at in
+    let the-list-at = c .before .before .before .before .before .before .before .before .before .before .before .before .before .before .before .before .before .before
+    .before .before .before .list-at in
     let the-wide = c .before .before .before .before .before .before .before .before .before .before .before .before .before .before .before .before .wide in
-    let the-list-at2 = c .before .before .before .before .before .before .before .before .before .before .before .before .before .before .before .before .before .before .before .before .list-at2 in
+    let the-list-at2 = c .before .before .before .before .before .before .before .before .before .before .before .before .before .before .before .before .before
+    .before .before .before .list-at2 in
     let the-load = c .before .before .before .before .before .before .before .before .before .before .before .before .before .before .load in
     let the-visit = c .before .before .before .before .before .before .before .before .before .visit in
     let the-more = c .more in
     let the-lists = c .before .before .before .before .lists in
-    pace-next (the-loop .inv) (the-loop-test .taken) (the-list-at .result) (the-list-at .ensures) (the-wide .result) (the-wide .ensures) (the-list-at2 .result) (the-list-at2 .ensures) (the-load .result) (the-load .ensures) (the-visit .last .1 .1 .1 .0) (the-visit .last .1 .1 .1 .1 .0) (the-visit .last .1 .1 .1 .1 .1 .0) (the-visit .last .1 .1 .1 .1 .1 .1 .0) (the-visit .result .count) (the-visit .result .steps) (the-visit .result .done) (the-more .result) (the-visit .kept .1 .1 .1 .0) (the-visit .kept .1 .1 .1 .1 .0) (the-visit .kept .1 .1 .1 .1 .1 .0) (the-visit .kept .1 .1 .1 .1 .1 .1 .0) (the-lists .given .1) (the-visit .ensures) (the-more .ensures)
+    pace-next (the-loop .inv) (the-loop-test .taken) (the-list-at .result) (the-list-at .ensures)
+    (the-wide .result) (the-wide .ensures) (the-list-at2 .result) (the-list-at2 .ensures) (the-load .result) (the-load .ensures)
+    (the-visit .last .1 .1 .1 .0) (the-visit .last .1 .1 .1 .1 .0) (the-visit .last .1 .1 .1 .1 .1 .0) (the-visit .last .1 .1 .1 .1 .1 .1 .0)
+    (the-visit .result .count) (the-visit .result .steps) (the-visit .result .done) (the-more .result)
+    (the-visit .kept .1 .1 .1 .0) (the-visit .kept .1 .1 .1 .1 .0) (the-visit .kept .1 .1 .1 .1 .1 .0) (the-visit .kept .1 .1 .1 .1 .1 .1 .0)
+    (the-lists .given .1) (the-visit .ensures) (the-more .ensures)
 
 same-length : tie.Need-same-length Inv-loop μ-loop
 same-length c =

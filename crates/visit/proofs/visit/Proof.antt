@@ -5,7 +5,8 @@ use mathlib.Core.Path.{_≡_}
 use mathlib.Core.Bool.{false, not}
 use lib.ListN.{length}
 use borrow.Author.Needs.{needs}
-use Rattle.visit.proofs.Loop.{Turn, turns, turn-first, turn-cell, turn-floor, turn-numbers, turn-last, turn-end, less-end, turn-branch, turn-resume, less-resume, turn-seen, less-seen, turn-countable, less-new, lead-slots, turn-lead, settle-asked, turn-settle, fork-asked, turn-fork}
+use Rattle.visit.proofs.Loop.{Turn, turns, turn-first, turn-cell, turn-floor, turn-numbers, turn-last, turn-end, less-end, turn-branch, turn-resume, less-resume}
+use Rattle.visit.proofs.Loop.{turn-seen, less-seen, turn-countable, less-new, lead-slots, turn-lead, settle-asked, turn-settle, fork-asked, turn-fork}
 use Rattle.visit.proofs.visit.Statement.{statement}
 use Rattle.visit.proofs.visit.Tie as tie
 use Rattle.visit.proofs.visit.Reads as reads
@@ -19,18 +20,22 @@ use Rattle.visit.proofs.wait.Reads as wait-reads
 use Rattle.visit.proofs.wide.Reads as wide-reads
 
 abbrev Inv-loop : tie.InvT-loop
-Inv-loop code pattern line seen₀ taken₀ list₀ pending₀ places at start carried before place₀ floor₀ rows₀ count₀ steps₀ waiting₀ alive₀ goes₀ done₀ seen taken list pending place floor rows count steps waiting alive goes done =
+Inv-loop code pattern line seen₀ taken₀ list₀ pending₀ places at start carried before place₀ floor₀ rows₀ count₀ steps₀ waiting₀ alive₀ goes₀ done₀
+    seen taken list pending place floor rows count steps waiting alive goes done =
     Turn code pattern line places at seen₀ taken₀ list₀ pending₀ place₀ rows₀ count₀ steps₀ seen taken list pending place floor rows count steps waiting alive goes done
 
 abbrev μ-loop : tie.MeasureT-loop
-μ-loop code pattern line seen₀ taken₀ list₀ pending₀ places at start carried before place₀ floor₀ rows₀ count₀ steps₀ waiting₀ alive₀ goes₀ done₀ seen taken list pending place floor rows count steps waiting alive goes done =
+μ-loop code pattern line seen₀ taken₀ list₀ pending₀ places at start carried before place₀ floor₀ rows₀ count₀ steps₀ waiting₀ alive₀ goes₀ done₀
+    seen taken list pending place floor rows count steps waiting alive goes done =
     turns at seen waiting alive goes
 
 loop-holds : tie.Need-loop-holds Inv-loop μ-loop
 loop-holds c =
     let the-args = c .before .before .before .before .before .before .before .args in
     let the-pre = c .before .before .before .before .before .before .before .pre in
-    turn-first (the-args .code .now) (the-args .pattern .now) (the-args .line .now) (the-args .places) (the-args .at) (the-args .seen .now) (the-args .taken .now) (the-args .list .now) (the-args .pending .now) (the-args .start) (the-args .groups) (the-args .carried) (the-args .before) (search needs) the-pre
+    turn-first (the-args .code .now) (the-args .pattern .now) (the-args .line .now) (the-args .places) (the-args .at)
+    (the-args .seen .now) (the-args .taken .now) (the-args .list .now) (the-args .pending .now)
+    (the-args .start) (the-args .groups) (the-args .carried) (the-args .before) (search needs) the-pre
 
 add-mark : tie.Need-add-mark Inv-loop μ-loop
 add-mark c =
@@ -70,7 +75,8 @@ wait-requires c κs =
     let the-if2 = c .before .before .before .if2 in
     let the-numbers-of = c .before .before .numbers-of in
     let the-if3 = c .before .if3 in
-    fork-asked (the-loop .inv) (the-if1 .taken) (the-loop-test .taken) (the-mark .last .0) (the-mark .result) (the-mark .ensures) (the-if2 .taken) (the-numbers-of .result .kind) (the-numbers-of .result .next) (the-numbers-of .result .a) (the-numbers-of .result .n) (the-numbers-of .ensures) (the-if3 .taken)
+    fork-asked (the-loop .inv) (the-if1 .taken) (the-loop-test .taken) (the-mark .last .0) (the-mark .result) (the-mark .ensures) (the-if2 .taken)
+    (the-numbers-of .result .kind) (the-numbers-of .result .next) (the-numbers-of .result .a) (the-numbers-of .result .n) (the-numbers-of .ensures) (the-if3 .taken)
 
 add-waiting : tie.Need-add-waiting Inv-loop μ-loop
 add-waiting c =
@@ -81,8 +87,12 @@ add-waiting c =
     let the-if2 = c .before .before .before .before .before .before .if2 in
     let the-numbers-of = c .before .before .before .before .before .numbers-of in
     let the-if3 = c .before .before .before .before .if3 in
-    let the-good = c .before .before .before .before .before .before .before .before .before .before .before .before .before .before .before .before .before .before .before .before .before .good in
-    omega (arith, fork-asked (the-loop .inv) (the-if1 .taken) (the-loop-test .taken) (the-mark .last .0) (the-mark .result) (the-mark .ensures) (the-if2 .taken) (the-numbers-of .result .kind) (the-numbers-of .result .next) (the-numbers-of .result .a) (the-numbers-of .result .n) (the-numbers-of .ensures) (the-if3 .taken) .0, the-good .1 .1 .1 .1 .1 .1 .0 .0)
+    let the-good = c .before .before .before .before .before .before .before .before .before .before .before .before .before .before .before .before .before .before
+    .before .before .before .good in
+    let asked =
+    fork-asked (the-loop .inv) (the-if1 .taken) (the-loop-test .taken) (the-mark .last .0) (the-mark .result) (the-mark .ensures) (the-if2 .taken)
+    (the-numbers-of .result .kind) (the-numbers-of .result .next) (the-numbers-of .result .a) (the-numbers-of .result .n) (the-numbers-of .ensures) (the-if3 .taken) in
+    omega (arith, asked .0, the-good .1 .1 .1 .1 .1 .1 .0 .0)
 
 loop-less : tie.Need-loop-less Inv-loop μ-loop
 loop-less c =
@@ -91,7 +101,8 @@ loop-less c =
     let the-loop-test = c .before .before .before .before .before .before .before .before .before .before .before .before .loop-test in
     let the-mark = c .before .before .before .before .before .before .before .before .before .mark in
     let the-if2 = c .before .before .before .before .before .before .if2 in
-    less-new (the-loop .inv) (the-if1 .taken) (the-loop-test .taken) (the-mark .last .0) (the-mark .result) (the-mark .ensures) (the-if2 .taken) (the-loop .waiting + 1) (the-loop .alive) (the-loop .goes) (omega arith)
+    less-new (the-loop .inv) (the-if1 .taken) (the-loop-test .taken) (the-mark .last .0) (the-mark .result) (the-mark .ensures) (the-if2 .taken)
+    (the-loop .waiting + 1) (the-loop .alive) (the-loop .goes) (omega arith)
 
 loop-again : tie.Need-loop-again Inv-loop μ-loop
 loop-again c =
@@ -103,7 +114,9 @@ loop-again c =
     let the-numbers-of = c .before .before .before .before .before .numbers-of in
     let the-if3 = c .before .before .before .before .if3 in
     let the-wait = c .before .before .wait in
-    turn-fork (the-loop .inv) (the-if1 .taken) (the-loop-test .taken) (the-mark .last .0) (the-mark .result) (the-mark .ensures) (the-if2 .taken) (the-numbers-of .result .kind) (the-numbers-of .result .next) (the-numbers-of .result .a) (the-numbers-of .result .n) (the-numbers-of .ensures) (the-if3 .taken) (the-wait .last .0) (the-wait .ensures)
+    turn-fork (the-loop .inv) (the-if1 .taken) (the-loop-test .taken) (the-mark .last .0) (the-mark .result) (the-mark .ensures) (the-if2 .taken)
+    (the-numbers-of .result .kind) (the-numbers-of .result .next) (the-numbers-of .result .a) (the-numbers-of .result .n) (the-numbers-of .ensures)
+    (the-if3 .taken) (the-wait .last .0) (the-wait .ensures)
 
 lead-requires : tie.Need-lead-requires Inv-loop μ-loop
 lead-requires c κs =
@@ -115,7 +128,10 @@ lead-requires c κs =
     let the-mark = c .before .before .before .before .before .before .before .mark in
     let the-if2 = c .before .before .before .before .if2 in
     let the-numbers-of = c .before .before .before .numbers-of in
-    (omega (arith, the-if3 .left), the-if4 .taken, turn-floor (the-loop .inv), omega (arith, the-loop .inv .inside), lead-slots (the-loop .inv) (the-if1 .taken) (the-loop-test .taken) (the-mark .last .0) (the-mark .result) (the-mark .ensures) (the-if2 .taken) (the-numbers-of .result .kind) (the-numbers-of .result .next) (the-numbers-of .result .a) (the-numbers-of .result .n) (the-numbers-of .ensures))
+    let slots =
+    lead-slots (the-loop .inv) (the-if1 .taken) (the-loop-test .taken) (the-mark .last .0) (the-mark .result) (the-mark .ensures) (the-if2 .taken)
+    (the-numbers-of .result .kind) (the-numbers-of .result .next) (the-numbers-of .result .a) (the-numbers-of .result .n) (the-numbers-of .ensures) in
+    (omega (arith, the-if3 .left), the-if4 .taken, turn-floor (the-loop .inv), omega (arith, the-loop .inv .inside), slots)
 
 loop-less-2 : tie.Need-loop-less-2 Inv-loop μ-loop
 loop-less-2 c =
@@ -125,7 +141,8 @@ loop-less-2 c =
     let the-mark = c .before .before .before .before .before .before .before .before .mark in
     let the-if2 = c .before .before .before .before .before .if2 in
     let the-lead = c .lead in
-    less-new (the-loop .inv) (the-if1 .taken) (the-loop-test .taken) (the-mark .last .0) (the-mark .result) (the-mark .ensures) (the-if2 .taken) (the-loop .waiting) (the-lead .result .goes) (the-loop .goes) (omega arith)
+    less-new (the-loop .inv) (the-if1 .taken) (the-loop-test .taken) (the-mark .last .0) (the-mark .result) (the-mark .ensures) (the-if2 .taken)
+    (the-loop .waiting) (the-lead .result .goes) (the-loop .goes) (omega arith)
 
 loop-again-2 : tie.Need-loop-again-2 Inv-loop μ-loop
 loop-again-2 c =
@@ -138,7 +155,9 @@ loop-again-2 c =
     let the-if3 = c .before .before .before .if3 in
     let the-if4 = c .before .before .if4 in
     let the-lead = c .lead in
-    turn-lead (the-loop .inv) (the-if1 .taken) (the-loop-test .taken) (the-mark .last .0) (the-mark .result) (the-mark .ensures) (the-if2 .taken) (the-numbers-of .result .kind) (the-numbers-of .result .next) (the-numbers-of .result .a) (the-numbers-of .result .n) (the-numbers-of .ensures) (omega (arith, the-if3 .left)) (the-if4 .taken) (the-lead .result .goes) (the-lead .result .floor) (the-lead .last .1 .1 .1 .1 .1 .1 .0) (the-lead .ensures)
+    turn-lead (the-loop .inv) (the-if1 .taken) (the-loop-test .taken) (the-mark .last .0) (the-mark .result) (the-mark .ensures) (the-if2 .taken)
+    (the-numbers-of .result .kind) (the-numbers-of .result .next) (the-numbers-of .result .a) (the-numbers-of .result .n) (the-numbers-of .ensures)
+    (omega (arith, the-if3 .left)) (the-if4 .taken) (the-lead .result .goes) (the-lead .result .floor) (the-lead .last .1 .1 .1 .1 .1 .1 .0) (the-lead .ensures)
 
 settle-requires : tie.Need-settle-requires Inv-loop μ-loop
 settle-requires c κs =
@@ -149,7 +168,8 @@ settle-requires c κs =
     let the-if2 = c .before .before .before .before .before .if2 in
     let the-numbers-of = c .before .before .before .before .numbers-of in
     let the-if4 = c .before .before .if4 in
-    settle-asked (the-loop .inv) (the-if1 .taken) (the-loop-test .taken) (the-mark .last .0) (the-mark .result) (the-mark .ensures) (the-if2 .taken) (the-numbers-of .result .kind) (the-numbers-of .result .next) (the-numbers-of .result .a) (the-numbers-of .result .n) (the-numbers-of .ensures) (the-if4 .left)
+    settle-asked (the-loop .inv) (the-if1 .taken) (the-loop-test .taken) (the-mark .last .0) (the-mark .result) (the-mark .ensures) (the-if2 .taken)
+    (the-numbers-of .result .kind) (the-numbers-of .result .next) (the-numbers-of .result .a) (the-numbers-of .result .n) (the-numbers-of .ensures) (the-if4 .left)
 
 loop-less-3 : tie.Need-loop-less-3 Inv-loop μ-loop
 loop-less-3 c =
@@ -159,7 +179,8 @@ loop-less-3 c =
     let the-mark = c .before .before .before .before .before .before .before .before .before .before .before .before .before .mark in
     let the-if2 = c .before .before .before .before .before .before .before .before .before .before .if2 in
     let the-settle = c .before .before .before .before .settle in
-    less-new (the-loop .inv) (the-if1 .taken) (the-loop-test .taken) (the-mark .last .0) (the-mark .result) (the-mark .ensures) (the-if2 .taken) (the-loop .waiting) false (not (the-settle .result .done)) (omega arith)
+    less-new (the-loop .inv) (the-if1 .taken) (the-loop-test .taken) (the-mark .last .0) (the-mark .result) (the-mark .ensures) (the-if2 .taken)
+    (the-loop .waiting) false (not (the-settle .result .done)) (omega arith)
 
 loop-again-3 : tie.Need-loop-again-3 Inv-loop μ-loop
 loop-again-3 c =
@@ -170,7 +191,10 @@ loop-again-3 c =
     let the-if2 = c .before .before .before .before .before .before .before .before .before .before .if2 in
     let the-numbers-of = c .before .before .before .before .before .before .before .before .before .numbers-of in
     let the-settle = c .before .before .before .before .settle in
-    turn-settle (the-loop .inv) (the-if1 .taken) (the-loop-test .taken) (the-mark .last .0) (the-mark .result) (the-mark .ensures) (the-if2 .taken) (the-numbers-of .result .kind) (the-numbers-of .result .next) (the-numbers-of .result .a) (the-numbers-of .result .n) (the-numbers-of .ensures) (the-settle .last .1 .1 .0) (the-settle .last .1 .1 .1 .0) (the-settle .result .count) (the-settle .result .done) (the-settle .kept .1 .1 .0) (the-settle .kept .1 .1 .1 .0) (the-settle .ensures)
+    turn-settle (the-loop .inv) (the-if1 .taken) (the-loop-test .taken) (the-mark .last .0) (the-mark .result) (the-mark .ensures) (the-if2 .taken)
+    (the-numbers-of .result .kind) (the-numbers-of .result .next) (the-numbers-of .result .a) (the-numbers-of .result .n) (the-numbers-of .ensures)
+    (the-settle .last .1 .1 .0) (the-settle .last .1 .1 .1 .0) (the-settle .result .count) (the-settle .result .done)
+    (the-settle .kept .1 .1 .0) (the-settle .kept .1 .1 .1 .0) (the-settle .ensures)
 
 loop-less-4 : tie.Need-loop-less-4 Inv-loop μ-loop
 loop-less-4 c =
@@ -268,7 +292,8 @@ loop-again-5 c =
     let the-wide2 = c .before .before .wide2 in
     let the-wide = c .before .before .before .before .wide in
     let the-load = c .load in
-    turn-resume (the-loop .inv) (the-if5 .taken) (the-if1 .left) (the-loop-test .taken) (the-wide2 .result) (the-wide .result) (the-load .result) (the-wide2 .ensures) (the-wide .ensures) (the-load .ensures)
+    turn-resume (the-loop .inv) (the-if5 .taken) (the-if1 .left) (the-loop-test .taken)
+    (the-wide2 .result) (the-wide .result) (the-load .result) (the-wide2 .ensures) (the-wide .ensures) (the-load .ensures)
 
 loop-less-6 : tie.Need-loop-less-6 Inv-loop μ-loop
 loop-less-6 c =
