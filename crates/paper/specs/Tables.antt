@@ -6,7 +6,6 @@ use lib.Dec.{eqb}
 use lib.ListN.{getD}
 use Rattle.paper.specs.Pattern.{Range}
 use Rattle.paper.specs.Check.{part, rangesOf}
-use Rattle.paper.specs.Reading.{everyByte}
 use Rattle.paper.specs.Machine.{Place, set, stop, fork, opening, closing, begin, beginOptional, ending, accept}
 
 -- the kinds of place by number, so that those that lead on at once, and those that do not, are ranges
@@ -31,8 +30,8 @@ endPlace = 5
 abbrev pub setPlace : ℕ
 setPlace = 6
 
-abbrev pub anyPlace : ℕ
-anyPlace = 7
+abbrev pub rangePlace : ℕ
+rangePlace = 7
 
 abbrev pub stopPlace : ℕ
 stopPlace = 8
@@ -44,8 +43,8 @@ acceptPlace = 9
 abbrev pub placeNumbers : ℕ
 placeNumbers = 4
 
--- the place that four numbers stand for. A search has two places whose set holds every byte and stands in no pattern. `a` and `n` are: of a fork the other follower; of an open or close the group;
--- of a begin the first group inside and how many; of a set the offset of its ranges in the pattern and how many
+-- the place that four numbers stand for. `a` and `n` are: of a fork the other follower; of an open or close the group; of a begin the first group inside and how many;
+-- of a set the offset of its ranges in the pattern and how many; of a range, which is a set of one range, its least and its greatest byte. A search has two that stand in no pattern
 abbrev pub placeOf : List ℕ → ℕ → ℕ → ℕ → ℕ → Place
 placeOf pattern kind next a n =
     cond (eqb kind forkPlace) (fork next a)
@@ -55,7 +54,7 @@ placeOf pattern kind next a n =
     (cond (eqb kind beginOptionalPlace) (beginOptional a n next)
     (cond (eqb kind endPlace) (ending next)
     (cond (eqb kind setPlace) (set (rangesOf (part pattern a (a + 2 * n))) next)
-    (cond (eqb kind anyPlace) (set everyByte next)
+    (cond (eqb kind rangePlace) (set (record { low = a; high = n } ∷ []) next)
     (cond (eqb kind acceptPlace) accept stop))))))))
 
 -- the place at an index of the table

@@ -11,7 +11,7 @@ ghost use Rattle.paper.specs.Refusal.{patternTooLong, brokenRecord, unknownKind
 ghost use Rattle.paper.specs.Pattern.{greedy, lazy};
 ghost use Rattle.paper.specs.Layout.{kinds, kindNumber, modeNumber};
 ghost use Rattle.paper.specs.Rows.{noRows};
-ghost use Rattle.paper.specs.Tables.{forkPlace, openPlace, closePlace, beginPlace, beginOptionalPlace, endPlace, setPlace, anyPlace, stopPlace, acceptPlace};
+ghost use Rattle.paper.specs.Tables.{forkPlace, openPlace, closePlace, beginPlace, beginOptionalPlace, endPlace, setPlace, rangePlace, stopPlace, acceptPlace};
 ghost use Rattle.pattern.specs.Answer.{Checks};
 
 // The limits of a pattern.
@@ -160,7 +160,7 @@ impl PlaceKind {
 
     pub const SET: u16 = 6;
 
-    pub const ANY: u16 = 7;
+    pub const RANGE: u16 = 7;
 
     pub const STOP: u16 = 8;
 
@@ -168,7 +168,7 @@ impl PlaceKind {
 
     // The numbers above are `paper`'s.
     pub fn all() -> [u16; 10]
-        ensures { λ r. ⌜ r ≡ forkPlace ∷ openPlace ∷ closePlace ∷ beginPlace ∷ beginOptionalPlace ∷ endPlace ∷ setPlace ∷ anyPlace ∷ stopPlace ∷ acceptPlace ∷ [] ⌝ }
+        ensures { λ r. ⌜ r ≡ forkPlace ∷ openPlace ∷ closePlace ∷ beginPlace ∷ beginOptionalPlace ∷ endPlace ∷ setPlace ∷ rangePlace ∷ stopPlace ∷ acceptPlace ∷ [] ⌝ }
     {
         [
             PlaceKind::FORK,
@@ -178,7 +178,7 @@ impl PlaceKind {
             PlaceKind::BEGIN_OPTIONAL,
             PlaceKind::END,
             PlaceKind::SET,
-            PlaceKind::ANY,
+            PlaceKind::RANGE,
             PlaceKind::STOP,
             PlaceKind::ACCEPT,
         ]
