@@ -2,14 +2,13 @@
 use Prim.Native.Nat.{ℕ, zero, suc, _+_, _-_, _*_, _≤_, _<_}
 use mathlib.Core.Path.{_≡_, refl, sym, ap, subst, _∙_}
 use mathlib.Core.Bool.{Bool, true, false, cond}
-use mathlib.Core.List.{List}
+use mathlib.Core.List.{List, [], _∷_}
 use native.Mathlib.Omega.{arith}
 use borrow.Author.Tests.{ltb-true, ltb-false, lt-ltb, le-ltb, eq-eqb, ne-eqb}
 use lib.Dec.{ltb, eqb}
 use lib.ListN.{getD}
 use Rattle.paper.specs.Pattern.{Mode, greedy, lazy}
 use Rattle.paper.specs.Check.{part, rangesOf}
-use Rattle.paper.specs.Reading.{everyByte}
 use Rattle.paper.specs.Machine.{Core, dead, skip, eats, captures, chain, either, must, maybe, star, Place, set, stop, fork, opening, closing, begin, beginOptional, ending, accept, size, passFork}
 use Rattle.paper.specs.Tables.{placeOf}
 use Rattle.places.specs.Laid.{kindOf, nextOf, aOf, nOf, Holds, Kept, Lays, entryOf}
@@ -131,7 +130,7 @@ unforked p kind next a n =
     (cond (eqb kind 4) (beginOptional a n next)
     (cond (eqb kind 5) (ending next)
     (cond (eqb kind 6) (set (rangesOf (part p a (a + 2 * n))) next)
-    (cond (eqb kind 7) (set everyByte next)
+    (cond (eqb kind 7) (set (record { low = a; high = n } ∷ []) next)
     (cond (eqb kind 9) accept stop)))))))
 
 unforked-moved : (g : ℕ → ℕ) (p : List ℕ) (kind next a n : ℕ) → unforked p kind (g next) a n ≡ movedPlace g (unforked p kind next a n)

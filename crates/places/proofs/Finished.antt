@@ -73,7 +73,7 @@ match-built {bs} {t} {t1} {t2} {e} {p} w same o put =
 
 -- the four places of an any-byte star
 pub star-laid : {base mode next first : ℕ} {t t1 t2 t3 t4 : List ℕ} → Forked t base mode (base + 1) next t1 → Put t1 (base + 1) 4 (base + 1 + 1) first 0 t2
-    → Put t2 (base + 1 + 1) 7 (base + 1 + 1 + 1) 0 0 t3 → Put t3 (base + 1 + 1 + 1) 5 base 0 0 t4 → StarLaid base mode next first t t4
+    → Put t2 (base + 1 + 1) 7 (base + 1 + 1 + 1) 0 255 t3 → Put t3 (base + 1 + 1 + 1) 5 base 0 0 t4 → StarLaid base mode next first t t4
 star-laid {base} {mode} {next} {first} f b s e =
     let high = base + 4 in
     record {

@@ -6,7 +6,8 @@ use mathlib.Core.List.{List, [], _∷_}
 use native.Mathlib.Numerals.{add-one}
 use native.Mathlib.Omega.{arith}
 use lib.Dec.{eqb}
-use lib.ListN.{length}
+use lib.ListN.{length, getD, take, drop}
+use lib.Seq.{drop-cons}
 use Rattle.paper.specs.Pattern.{Mode, Upper, upTo, noEnd, Range, Pattern, places, groups, repeatPlaces}
 use Rattle.paper.specs.Pattern.Pattern.{repeat}
 use Rattle.paper.specs.Layout.{upperNumber}
@@ -17,10 +18,10 @@ use Rattle.paper.proofs.RepeatBody.{mode-of-number}
 use Rattle.pattern.specs.Walk.{placesIn, groupsIn, optionalPasses, passPlaces}
 use Rattle.places.specs.Laid.{Holds, Kept, Lays, entryOf}
 use Rattle.places.specs.Standing.{Stands, Row, UpperRight, rowPlaces, rowCore}
-use Rattle.places.specs.Asked.{Fitting, Put, Counting, Counted, One, OneLaid, HeadLaid, Several, SeveralLaid, CountsRight, passCore, innerStart, inPlace, Repeating, PassesLaid, Repeat, RepeatLaid}
+use Rattle.places.specs.Asked.{Fitting, Put, Counting, Counted, Ranged, RangedLaid, One, OneLaid, HeadLaid, Several, SeveralLaid, CountsRight, passCore, innerStart, inPlace, Repeating, PassesLaid, Repeat, RepeatLaid}
 use Rattle.places.proofs.Laying.{holds-kept, plain-holds, put-holds, lays-kept, lays-none, kept-none, kept-both}
 use Rattle.places.proofs.Sizes.{row-size, optional-maybes}
-use Rattle.places.proofs.Entering.{entry-small, passes-none, first-inner}
+use Rattle.places.proofs.Entering.{at-least-one, entry-small, passes-none, first-inner}
 use Rattle.places.proofs.Adding.{upper-named, repeat-more, row-long}
 use Rattle.places.proofs.Views.{RowView, nothing-view, set-view, group-view, repeat-view, row-view}
 
@@ -185,26 +186,65 @@ stop-laid {bs} {at} {base = base} {next = next} {first = first} {t' = t'} some e
       laid = λ m. as-tree t' bs first base next (nothing-view (m .tree) bs at (m .inside .stand) (sym ek ∙ none)) (put-holds bs put (omega arith) (λ e. absurd (omega arith)));
     }
 
--- the pairs of a set, by the bytes of its body
-pub set-fits : {bs : List ℕ} {at stop base next first n kind : ℕ} → One bs at stop base next first n → kind ≡ kindAt bs at → kind ≡ 2
-    → (at + 4 + 2 * ((stop - (at + 4)) / 2) ≤ length bs) × ((stop - (at + 4)) / 2 ≤ 32)
-set-fits {bs} {at} m ek two =
-    let v = set-view (m .tree) bs at (m .inside .stand) (sym ek ∙ two) in
-    (omega (arith, v .pairs .whole, m .inside .end-is, m .inside .ends), omega (arith, v .pairs .whole, v .pairs .few, m .inside .end-is))
+-- `set_place`: two bytes are one range
+one-range : (bs : List ℕ) (start : ℕ) → start + 2 ≤ length bs
+    → rangesOf (part bs start (start + 2)) ≡ record { low = getD bs start 0; high = getD bs (start + 1) 0 } ∷ []
+one-range bs start fits =
+    let two : start + 2 - start ≡ suc (suc 0) = omega arith in
+    let a : start < length bs = omega arith in
+    let b : suc start < length bs = omega arith in
+    ap (λ (n : ℕ). rangesOf (take n (drop start bs))) two
+    ∙ ap (λ (l : List ℕ). rangesOf (take (suc (suc 0)) l)) (drop-cons bs start 0 a ∙ ap (λ (l : List ℕ). getD bs start 0 ∷ l) (drop-cons bs (suc start) 0 b))
+    ∙ ap (λ (n : ℕ). record { low = getD bs start 0; high = getD bs n 0 } ∷ []) (sym (add-one start))
+
+-- a set of one range: its least and its greatest byte are the place's numbers
+pub range-laid : {bs t t' : List ℕ} {start stop base next low high : ℕ} → Ranged bs start stop base next → stop - start ≡ 2 → low ≡ getD bs start 0
+    → high ≡ getD bs (start + 1) 0 → Put t base 7 next low high t' → RangedLaid bs start stop base next t t'
+range-laid {bs} {t' = t'} {start = start} {stop = stop} {base = base} {next = next} {low = low} {high = high} m two el eh put =
+    let end : start + 2 ≡ stop = omega arith in
+    let own : record { low = low; high = high } ∷ [] ≡ rangesOf (part bs start stop) =
+    ap (λ (x : ℕ). record { low = x; high = high } ∷ []) el ∙ ap (λ (x : ℕ). record { low = getD bs start 0; high = x } ∷ []) eh
+    ∙ sym (one-range bs start (omega (arith, m .ends))) ∙ ap (λ (e : ℕ). rangesOf (part bs start e)) end in
+    record {
+      kept = put .kept;
+      held = subst (λ (r : List Range). Holds t' bs base (set r next)) own (put-holds bs put (omega arith) (λ six. absurd (omega arith)));
+    }
+
+-- any other set: where its pairs stand, and how many they are
+pub pairs-laid : {bs t t' : List ℕ} {start stop base next : ℕ} → Ranged bs start stop base next → Put t base 6 next start ((stop - start) / 2) t'
+    → RangedLaid bs start stop base next t t'
+pairs-laid {bs} {t' = t'} {start = start} {stop = stop} {base = base} {next = next} m put =
+    let end : start + 2 * ((stop - start) / 2) ≡ stop = omega (arith, m .whole) in
+    record {
+      kept = put .kept;
+      held = subst (λ (e : ℕ). Holds t' bs base (set (rangesOf (part bs start e)) next)) end
+          (put-holds bs put (omega arith) (λ six. (omega (arith, m .ends), omega (arith, m .whole, m .few))));
+    }
 
 -- a byte set is one place
-pub set-laid : {bs : List ℕ} {at stop base next first n kind : ℕ} {t t' : List ℕ} → One bs at stop base next first n → (n ≡ 0 → ⊥)
-    → kind ≡ kindAt bs at → kind ≡ 2 → Put t base 6 next (at + 4) ((stop - (at + 4)) / 2) t' → OneLaid bs at stop base next first n t t'
-set-laid {bs} {at} {stop} {base} {next} {first} {t' = t'} m0 some ek two put =
+pub set-ask : {bs : List ℕ} {at stop base next first n kind : ℕ} → One bs at stop base next first n → (n ≡ 0 → ⊥) → kind ≡ kindAt bs at → kind ≡ 2
+    → Ranged bs (at + 4) stop base next
+set-ask {bs} {at} m some ek two =
+    let v = set-view (m .tree) bs at (m .inside .stand) (sym ek ∙ two) in
     record {
-      kept = one-kept some (put .kept);
+      pairs = length (v .ranges);
+      whole = omega (arith, v .pairs .whole, m .inside .end-is);
+      few = v .pairs .few;
+      ends = m .inside .ends;
+      short = m .inside .short;
+      room = omega (arith, at-least-one some, m .room);
+      follows = m .follows;
+    }
+
+pub set-laid : {bs : List ℕ} {at stop base next first n kind : ℕ} {t t' : List ℕ} → (n ≡ 0 → ⊥) → kind ≡ kindAt bs at → kind ≡ 2
+    → RangedLaid bs (at + 4) stop base next t t' → OneLaid bs at stop base next first n t t'
+set-laid {bs} {at} {base = base} {next = next} {first = first} {t' = t'} some ek two r =
+    record {
+      kept = one-kept some (r .kept);
       laid = λ m.
           let v = set-view (m .tree) bs at (m .inside .stand) (sym ek ∙ two) in
-          let half : at + 4 + 2 * ((stop - (at + 4)) / 2) ≡ bodyEnd bs at = omega (arith, v .pairs .whole, m .inside .end-is) in
-          let ranges : rangesOf (part bs (at + 4) (at + 4 + 2 * ((stop - (at + 4)) / 2))) ≡ v .ranges =
-          ap (λ (e : ℕ). rangesOf (part bs (at + 4) e)) half ∙ v .pairs .found in
-          as-tree t' bs first base next (v .is)
-          (subst (λ (r : List Range). Holds t' bs base (set r next)) ranges (put-holds bs put (omega arith) (λ e. set-fits m0 ek two)));
+          let ranges = ap (λ (e : ℕ). rangesOf (part bs (at + 4) e)) (sym (m .inside .end-is)) ∙ v .pairs .found in
+          as-tree t' bs first base next (v .is) (subst (λ (r : List Range). Holds t' bs base (set r next)) ranges (r .held));
     }
 
 -- a group: its open, what it holds, its close

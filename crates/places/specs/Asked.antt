@@ -5,11 +5,11 @@ use mathlib.Core.Bool.{Bool, true, false, cond}
 use mathlib.Core.List.{List}
 use lib.Dec.{ltb, eqb}
 use lib.ListN.{length}
-use Rattle.paper.specs.Limits.{patternBytes, patternPlaces, rowCount, repeatCount, noUpperEnd}
+use Rattle.paper.specs.Limits.{patternBytes, patternPlaces, rowCount, setPairs, repeatCount, noUpperEnd}
 use Rattle.paper.specs.Pattern.{Mode, Upper, Pattern, places, groups, repeatPlaces}
-use Rattle.paper.specs.Check.{numberAt, bodyEnd, repeatHead, upperOf, modeOf}
+use Rattle.paper.specs.Check.{numberAt, bodyEnd, part, rangesOf, repeatHead, upperOf, modeOf}
 use Rattle.paper.specs.Reading.{everyByte}
-use Rattle.paper.specs.Machine.{Core, skip, eats, maybe, star, musts, writtenOut, passFork, size}
+use Rattle.paper.specs.Machine.{Core, skip, eats, set, maybe, star, musts, writtenOut, passFork, size}
 use Rattle.paper.specs.Tables.{placeNumbers, placeOf, forkPlace, setPlace}
 use Rattle.pattern.specs.Walk.{placesIn, groupsIn, passPlaces}
 use Rattle.places.specs.Laid.{kindOf, nextOf, aOf, nOf, Holds, Kept, Lays, entryOf}
@@ -112,6 +112,20 @@ pub record Inside (bs : List ℕ) (at stop first : ℕ) (e : Pattern) : Type 0 w
   pub ends : stop ≤ length bs
   pub short : length bs ≤ patternBytes
   pub few : first + groups e ≤ rowCount
+
+-- `set_place`: the pairs of a set, and room for its place
+pub record Ranged (bs : List ℕ) (start stop base next : ℕ) : Type 0 where
+  pub pairs : ℕ
+  pub whole : stop ≡ start + 2 * pairs
+  pub few : pairs ≤ setPairs
+  pub ends : stop ≤ length bs
+  pub short : length bs ≤ patternBytes
+  pub room : base + 1 ≤ mostPlaces
+  pub follows : next ≤ mostPlaces
+
+pub record RangedLaid (bs : List ℕ) (start stop base next : ℕ) (before after : List ℕ) : Type 0 where
+  pub kept : Kept base (base + 1) before after
+  pub held : Holds after bs base (set (rangesOf (part bs start stop)) next)
 
 -- `one`: a record that has so many places, and room for them
 pub record One (bs : List ℕ) (at stop base next first n : ℕ) : Type 0 where

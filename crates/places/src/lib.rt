@@ -3,6 +3,7 @@ use pattern::Kind;
 use pattern::Pattern;
 use pattern::PlaceKind;
 use records::number_at;
+use records::wide;
 ghost use mathlib.Core.Path.{_≡_};
 ghost use mathlib.Core.Bool.{true, false, cond};
 ghost use Prim.Native.Nat.{_+_, _-_, _*_, _≤_, _<_};
@@ -12,7 +13,7 @@ ghost use Rattle.paper.specs.Pattern.{repeatPlaces};
 ghost use Rattle.paper.specs.Check.{bodyEnd, upperOf};
 ghost use Rattle.pattern.specs.Walk.{optionalPasses};
 ghost use Rattle.places.specs.Laid.{entryOf};
-ghost use Rattle.places.specs.Asked.{Fitting, Put, Forked, Capped, insideStart, CountsRight, ownPlaces, OwnPlaces, ownGroups, Counting, Counted, One, OneLaid, Head, HeadLaid, Several, SeveralLaid, innerStart, movedTo, movedOther, Moving, PutMoved, Copied, Begun, BegunLaid, Repeating, PassesLaid, Repeat, RepeatLaid, Star, StarLaid, tableRoom, mostPlaces, mostNumber, mostCounted, mostOwn};
+ghost use Rattle.places.specs.Asked.{Fitting, Put, Forked, Capped, insideStart, CountsRight, ownPlaces, OwnPlaces, ownGroups, Counting, Counted, Ranged, RangedLaid, One, OneLaid, Head, HeadLaid, Several, SeveralLaid, innerStart, movedTo, movedOther, Moving, PutMoved, Copied, Begun, BegunLaid, Repeating, PassesLaid, Repeat, RepeatLaid, Star, StarLaid, tableRoom, mostPlaces, mostNumber, mostCounted, mostOwn};
 ghost use Rattle.places.specs.Built.{Accepted, BuiltMatch, BuiltSearch};
 
 // Writes a place's four numbers.
@@ -398,6 +399,21 @@ fn repeated(
     passes(table, pass, least, optional_passes(least, most), base, next);
 }
 
+// The place of a set: a single range stands in the place's own numbers, so that a step reads no pattern; more are found by their offset.
+fn set_place(pattern: &[u8], table: &mut [u16], start: usize, stop: usize, base: usize, next: usize)
+    requires { ⌜ Ranged (now pattern) start stop base next ⌝ }
+    requires { ⌜ tableRoom ≤ length (now table) ⌝ }
+    ensures { λ _. ⌜ RangedLaid (now (pattern .entry)) start stop base next (now (table .entry)) (now (table .exit)) ⌝ }
+{
+    if stop - start == 2 {
+        let low = wide(pattern[start]);
+        let high = wide(pattern[start + 1]);
+        put(table, base, PlaceKind::RANGE, next, low, high);
+    } else {
+        put(table, base, PlaceKind::SET, next, start, (stop - start) / 2);
+    }
+}
+
 // The places of one record.
 fn one(pattern: &[u8], table: &mut [u16], part: Part, base: usize, next: usize)
     requires { ⌜ One (now pattern) (part .at) (part .stop) base next (part .first) (part .places) ⌝ }
@@ -413,7 +429,7 @@ fn one(pattern: &[u8], table: &mut [u16], part: Part, base: usize, next: usize)
     if places == 0 {} else if kind == Kind::NOTHING {
         put(table, base, PlaceKind::STOP, 0, 0, 0);
     } else if kind == Kind::BYTES {
-        put(table, base, PlaceKind::SET, next, start, (stop - start) / 2);
+        set_place(pattern, table, start, stop, base, next);
     } else if kind == Kind::GROUP {
         let close = base + 1 + (places - 2);
         let inner = Part {
@@ -556,7 +572,7 @@ fn any_star(table: &mut [u16], base: usize, mode: usize, next: usize, first: usi
     let end = inside + 1;
     pass_fork(table, base, mode, base + 1, next);
     put(table, base + 1, PlaceKind::BEGIN_OPTIONAL, inside, first, 0);
-    put(table, inside, PlaceKind::ANY, end, 0, 0);
+    put(table, inside, PlaceKind::RANGE, end, 0, 255);
     put(table, end, PlaceKind::END, base, 0, 0);
 }
 

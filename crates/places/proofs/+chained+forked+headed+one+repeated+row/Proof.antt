@@ -7,7 +7,7 @@ use native.Mathlib.Omega.{arith}
 use Rattle.places.specs.Asked.{Several}
 use Rattle.places.proofs.Entering.{at-least-one}
 use Rattle.places.proofs.Building.{head-fits, head-one}
-use Rattle.places.proofs.Records.{Along, repeat-counting, counts-right, inner-ask, passes-ask, repeat-passes, nothing-to-lay, stop-laid, set-laid, group-one, group-two, group-laid, repeat-ask, repeat-laid, row-ask, row-laid, row-header, last-one, more-counting, more-few, fork-sum, fork-one, fork-rest, fork-fits, chain-sum, chain-one, chain-rest, along-all, along-chain, along-fork, along-last}
+use Rattle.places.proofs.Records.{Along, repeat-counting, counts-right, inner-ask, passes-ask, repeat-passes, nothing-to-lay, stop-laid, set-ask, set-laid, group-one, group-two, group-laid, repeat-ask, repeat-laid, row-ask, row-laid, row-header, last-one, more-counting, more-few, fork-sum, fork-one, fork-rest, fork-fits, chain-sum, chain-one, chain-rest, along-all, along-chain, along-fork, along-last}
 use borrow.Fn.Kinds.{In}
 use borrow.Fn.PlainCycle.{Measures, is, falls, and}
 use Rattle.places.proofs.chained.Reads as chained
@@ -35,6 +35,7 @@ use Rattle.places.proofs.optional_passes.Reads as optional-passes-reads
 use Rattle.places.proofs.passes.Reads as passes-reads
 use Rattle.places.proofs.put.Reads as put-reads
 use Rattle.places.proofs.record_end.Reads as record-end-reads
+use Rattle.places.proofs.set_place.Reads as set-place-reads
 use Rattle.records.proofs.number_at.Reads as number-at-reads
 use Rattle.places.proofs.+chained+forked+headed+one+repeated+row.{statement}
 use Rattle.places.proofs.+chained+forked+headed+one+repeated+row.Tie.{close}
@@ -382,7 +383,7 @@ headed-returns t c =
     head-one (the-entered .ensures) (the-pre .1 .1 .0) (the-put .ensures) (the-one .ensures)
 
 abbrev one-calls : ℕ → one-lts.Claims
-one-calls t = (number-at-reads.Asked, number-at-reads.Learnt, put-reads.Asked, put-reads.Learnt, headed-below t, headed.Post, repeated-below t, repeated.Post, row-below t, row.Post)
+one-calls t = (number-at-reads.Asked, number-at-reads.Learnt, put-reads.Asked, put-reads.Learnt, set-place-reads.Asked, set-place-reads.Learnt, headed-below t, headed.Post, repeated-below t, repeated.Post, row-below t, row.Post)
 
 one-add-number-at : (t : ℕ) → one-lts.Need-add-number-at (one-calls t) (one-at t) one.Post
 one-add-number-at t c =
@@ -405,16 +406,13 @@ one-put-requires t c κs =
     let the-pre = c .before .before .before .before .before .before .pre in
     record { room = omega (arith, at-least-one (the-if1 .left), (the-pre .1 .0) .room, the-pre .1 .1); next-fits = omega arith; a-fits = omega arith; n-fits = omega arith }
 
-one-sub-put : (t : ℕ) → one-lts.Need-sub-put (one-calls t) (one-at t) one.Post
-one-sub-put t c =
+one-set-place-requires : (t : ℕ) → one-lts.Need-set-place-requires (one-calls t) (one-at t) one.Post
+one-set-place-requires t c κs =
     let the-pre = c .before .before .before .before .before .before .before .pre in
-    omega (arith, (the-pre .1 .0) .inside .end-is, (the-pre .1 .0) .inside .ends, (the-pre .1 .0) .inside .short)
-
-one-put-requires-2 : (t : ℕ) → one-lts.Need-put-requires-2 (one-calls t) (one-at t) one.Post
-one-put-requires-2 t c κs =
     let the-if1 = c .before .before .before .if1 in
-    let the-pre = c .before .before .before .before .before .before .before .pre in
-    record { room = omega (arith, at-least-one (the-if1 .left), (the-pre .1 .0) .room, the-pre .1 .1); next-fits = omega (arith, (the-pre .1 .0) .follows); a-fits = omega (arith, (the-pre .1 .0) .inside .end-is, (the-pre .1 .0) .inside .ends, (the-pre .1 .0) .inside .short); n-fits = omega (arith, (the-pre .1 .0) .inside .end-is, (the-pre .1 .0) .inside .ends, (the-pre .1 .0) .inside .short) }
+    let the-number-at = c .before .before .before .before .number-at in
+    let the-if3 = c .before .if3 in
+    (set-ask (the-pre .1 .0) (the-if1 .left) (the-number-at .ensures .0) (the-if3 .taken), the-pre .1 .1)
 
 one-add-close : (t : ℕ) → one-lts.Need-add-close (one-calls t) (one-at t) one.Post
 one-add-close t c =
@@ -437,13 +435,13 @@ one-add-close-2 t c =
     let the-if4 = c .if4 in
     omega (arith, (the-pre .1 .0) .room, group-two (the-pre .1 .0) (the-number-at .ensures .0) (the-if4 .taken))
 
-one-add-t28 : (t : ℕ) → one-lts.Need-add-t28 (one-calls t) (one-at t) one.Post
-one-add-t28 t c =
+one-add-t26 : (t : ℕ) → one-lts.Need-add-t26 (one-calls t) (one-at t) one.Post
+one-add-t26 t c =
     let the-pre = c .before .before .before .before .before .before .before .pre in
     omega (arith, (the-pre .1 .0) .inside .few)
 
-one-sub-t29 : (t : ℕ) → one-lts.Need-sub-t29 (one-calls t) (one-at t) one.Post
-one-sub-t29 t c =
+one-sub-t27 : (t : ℕ) → one-lts.Need-sub-t27 (one-calls t) (one-at t) one.Post
+one-sub-t27 t c =
     let the-pre = c .before .before .before .before .before .before .before .pre in
     let the-number-at = c .before .before .before .before .number-at in
     let the-if4 = c .if4 in
@@ -456,8 +454,8 @@ one-headed-requires t c κs =
     let the-if4 = c .before .if4 in
     (omega (arith, the-pre .0, (the-pre .1 .0) .inside .end-is, (the-pre .1 .0) .inside .ends, (the-pre .1 .0) .inside .short), (group-one (the-pre .1 .0) (the-number-at .ensures .0) (the-if4 .taken), (record { no-set = omega arith; a-small = omega (arith, (the-pre .1 .0) .inside .few); n-small = omega arith }, the-pre .1 .1)))
 
-one-put-requires-3 : (t : ℕ) → one-lts.Need-put-requires-3 (one-calls t) (one-at t) one.Post
-one-put-requires-3 t c κs =
+one-put-requires-2 : (t : ℕ) → one-lts.Need-put-requires-2 (one-calls t) (one-at t) one.Post
+one-put-requires-2 t c κs =
     let the-pre = c .before .before .before .before .before .before .before .before .before .before .before .before .pre in
     let the-number-at = c .before .before .before .before .before .before .before .before .before .number-at in
     let the-if4 = c .before .before .before .before .before .if4 in
@@ -503,23 +501,22 @@ one-returns-2 t c =
 
 one-same-length-2 : (t : ℕ) → one-lts.Need-same-length-2 (one-calls t) (one-at t) one.Post
 one-same-length-2 t c =
-    let the-put2 = c .before .before .put2 in
-    the-put2 .ensures .kept .same-length
+    let the-set-place = c .before .before .set-place in
+    the-set-place .ensures .kept .same-length
 
 one-returns-3 : (t : ℕ) → one-lts.Need-returns-3 (one-calls t) (one-at t) one.Post
 one-returns-3 t c =
-    let the-pre = c .before .before .before .before .before .before .before .before .before .before .pre in
     let the-if1 = c .before .before .before .before .before .before .if1 in
     let the-number-at = c .before .before .before .before .before .before .before .number-at in
     let the-if3 = c .before .before .before .before .if3 in
-    let the-put2 = c .before .before .put2 in
-    set-laid (the-pre .1 .0) (the-if1 .left) (the-number-at .ensures .0) (the-if3 .taken) (the-put2 .ensures)
+    let the-set-place = c .before .before .set-place in
+    set-laid (the-if1 .left) (the-number-at .ensures .0) (the-if3 .taken) (the-set-place .ensures)
 
 one-same-length-3 : (t : ℕ) → one-lts.Need-same-length-3 (one-calls t) (one-at t) one.Post
 one-same-length-3 t c =
-    let the-put3 = c .before .before .put3 in
+    let the-put2 = c .before .before .put2 in
     let the-headed = c .before .before .before .before .before .before .headed in
-    the-put3 .ensures .kept .same-length ∙ the-headed .ensures .kept .same-length
+    the-put2 .ensures .kept .same-length ∙ the-headed .ensures .kept .same-length
 
 one-returns-4 : (t : ℕ) → one-lts.Need-returns-4 (one-calls t) (one-at t) one.Post
 one-returns-4 t c =
@@ -527,8 +524,8 @@ one-returns-4 t c =
     let the-number-at = c .before .before .before .before .before .before .before .before .before .before .before .before .number-at in
     let the-if4 = c .before .before .before .before .before .before .before .before .if4 in
     let the-headed = c .before .before .before .before .before .before .headed in
-    let the-put3 = c .before .before .put3 in
-    group-laid (the-pre .1 .0) (the-number-at .ensures .0) (the-if4 .taken) (the-headed .ensures) (the-put3 .ensures)
+    let the-put2 = c .before .before .put2 in
+    group-laid (the-pre .1 .0) (the-number-at .ensures .0) (the-if4 .taken) (the-headed .ensures) (the-put2 .ensures)
 
 one-same-length-4 : (t : ℕ) → one-lts.Need-same-length-4 (one-calls t) (one-at t) one.Post
 one-same-length-4 t c =
@@ -793,6 +790,8 @@ pub +chained+forked+headed+one+repeated+row-spec : {M : Type 1} → statement M
       number-at-reads.Learnt,
       put-reads.Asked,
       put-reads.Learnt,
+      set-place-reads.Asked,
+      set-place-reads.Learnt,
       headed-below t,
       headed.Post,
       repeated-below t,
@@ -806,15 +805,14 @@ pub +chained+forked+headed+one+repeated+row-spec : {M : Type 1} → statement M
     (one-number-at-requires t)
     (one-add-start t)
     (one-put-requires t)
-    (one-sub-put t)
-    (one-put-requires-2 t)
+    (one-set-place-requires t)
     (one-add-close t)
     (one-sub-close t)
     (one-add-close-2 t)
-    (one-add-t28 t)
-    (one-sub-t29 t)
+    (one-add-t26 t)
+    (one-sub-t27 t)
     (one-headed-requires t)
-    (one-put-requires-3 t)
+    (one-put-requires-2 t)
     (one-repeated-requires t)
     (one-row-requires t)
     (one-returns t)
