@@ -1,5 +1,6 @@
 // The positions of the line one after the other: the threads of a list visited in order, and those that they carry.
 use pattern::Spans;
+use visit::Ahead;
 use visit::Visited;
 ghost use mathlib.Core.Path.{_≡_};
 ghost use mathlib.Core.Bool.{not, cond, _&&_};
@@ -7,6 +8,7 @@ ghost use Prim.Native.Nat.{ℕ, _+_, _*_, _≤_, _<_};
 ghost use lib.Dec.{ltb};
 ghost use lib.ListN.{length, replicate};
 ghost use Rattle.visit.specs.Threads.{threadNumbers};
+ghost use Rattle.visit.specs.Shows.{AheadIn};
 ghost use Rattle.run.specs.Steps.{listOf, Stepping, Steps, Running, Runs};
 
 // How the machine stopped, with the steps made and, where it matched, the winner's rows.
@@ -41,6 +43,25 @@ fn list_at(second: bool, long: usize) -> usize
     if second { long } else { 0 }
 }
 
+// What stands at a position of the line: the threads there all ask for it.
+fn ahead_at(line: &[u8], at: u16) -> Ahead
+    requires { ⌜ at ≤ length (now line) ⌝ }
+    ensures { λ r. ⌜ AheadIn (now (line .entry)) at (r .there) (r .byte) ⌝ }
+{
+    let p = visit::wide(at);
+    if p < line.len() {
+        Ahead {
+            there: true,
+            byte: line[p],
+        }
+    } else {
+        Ahead {
+            there: false,
+            byte: 0,
+        }
+    }
+}
+
 // The threads of one of two lists at one position, in order, until one has won. Those that they carry go into the other list.
 fn step(
     code: &[u16],
@@ -58,12 +79,14 @@ fn step(
 ) -> Visited
     requires { ⌜ Stepping (now code) (now pattern) places at (now seen) (now taken) (listOf places second (now lists)) number (listOf places (not second) (now lists)) (now pending) before ⌝ }
     requires { ⌜ 2 * (threadNumbers * (places + 1)) ≤ length (now lists) ⌝ }
+    requires { ⌜ at ≤ length (now line) ⌝ }
     ensures { λ r. ⌜ Steps (now (code .entry)) (now (pattern .entry)) (now (line .entry)) places at (now (seen .entry)) (now (taken .entry)) (listOf places second (now (lists .entry))) number before (now (seen .exit)) (now (taken .exit)) (listOf places (not second) (now (lists .exit))) (r .count) (r .steps) (r .done) ⌝ }
 {
     let long = visit::THREAD * (places + 1);
     let from = list_at(second, long);
     let to = list_at(!second, long);
     let end = to + long;
+    let ahead = ahead_at(line, at);
     let mut i = 0;
     let mut count = 0;
     let mut steps = before;
@@ -76,12 +99,12 @@ fn step(
         let r = visit::visit(
             code,
             pattern,
-            line,
             seen,
             taken,
             &mut lists[to..end],
             pending,
             places,
+            ahead,
             at,
             place,
             rows,

@@ -16,7 +16,7 @@ use Rattle.paper.specs.Machine.{Thread, at, State, visit}
 use Rattle.paper.specs.Tables.{decode}
 use Rattle.visit.specs.Threads.{left, waited, rowsFrom}
 use Rattle.visit.specs.Wired.{Wired, Slots, kindAt, levelAfter}
-use Rattle.visit.specs.Shows.{Shows, Carried, Under, Arrives, Visits}
+use Rattle.visit.specs.Shows.{AheadIn, Shows, Carried, Under, Arrives, Visits}
 use Rattle.visit.specs.Moves.{Leads, Settling, Settles}
 use Rattle.visit.proofs.Stamps.{left-mark, mark-same, under-mark}
 use Rattle.visit.proofs.Cells.{cell-inside, deep-after}
@@ -53,7 +53,7 @@ reach-most (suc level) x = omega (arith, reach-high level x)
 -- ---- what holds at the loop's test
 
 -- of the tables at entry (₀) and now, of the thread that is next, and of the branches that wait
-pub record Turn (code pattern line : List ℕ) (places p : ℕ) (seen₀ taken₀ list₀ pending₀ : List ℕ) (x₀ : ℕ) (rows₀ : Rows) (count₀ steps₀ : ℕ)
+pub record Turn (code pattern : List ℕ) (there : Bool) (byte places p : ℕ) (seen₀ taken₀ list₀ pending₀ : List ℕ) (x₀ : ℕ) (rows₀ : Rows) (count₀ steps₀ : ℕ)
     (seen taken list pending : List ℕ) (x floor : ℕ) (rows : Rows) (count steps waiting : ℕ) (alive goes done : Bool) : Type 0 where
   pub asked : Arrives code pattern places p x₀ seen₀ taken₀ list₀ pending₀ count₀ steps₀
   pub level : ℕ
@@ -73,7 +73,7 @@ pub record Turn (code pattern line : List ℕ) (places p : ℕ) (seen₀ taken�
   pub unwon : goes ≡ true → done ≡ false
   pub waits : Waits places (asked .wired .deep) pending (leftLow places (p + 1) seen) waiting waiters
   pub bounded : alive ≡ true → waiting + leftLow places (p + 1) seen ≤ places + reach level x
-  pub stands : (k : ℕ) (s : State) → Shows places (p + 1) seen₀ taken₀ list₀ count₀ steps₀ false s → left (p + 1) seen₀ < k
+  pub stands : (line : List ℕ) → AheadIn line p there byte → (k : ℕ) (s : State) → Shows places (p + 1) seen₀ taken₀ list₀ count₀ steps₀ false s → left (p + 1) seen₀ < k
       → Stands code pattern line places p seen taken list count steps goes done (cond alive (at x level rows ∷ waiters) waiters)
       (visit k (decode code pattern places) line p (at x₀ 0 rows₀) s)
 
@@ -92,10 +92,10 @@ at-most-one true = omega arith
 at-most-one false = omega arith
 
 -- it holds at the start
-pub turn-first : (code pattern line : List ℕ) (places p : ℕ) (seen taken list pending : List ℕ) (x : ℕ) (rows : Rows) (count steps : ℕ)
+pub turn-first : (code pattern : List ℕ) (there : Bool) (byte places p : ℕ) (seen taken list pending : List ℕ) (x : ℕ) (rows : Rows) (count steps : ℕ)
     → length rows ≡ 20 → Arrives code pattern places p x seen taken list pending count steps
-    → Turn code pattern line places p seen taken list pending x rows count steps seen taken list pending x 0 rows count steps 0 true true false
-turn-first code pattern line places p seen taken list pending x rows count steps rows-long asked = record {
+    → Turn code pattern there byte places p seen taken list pending x rows count steps seen taken list pending x 0 rows count steps 0 true true false
+turn-first code pattern there byte places p seen taken list pending x rows count steps rows-long asked = record {
   asked = asked;
   level = 0;
   waiters = [];
@@ -114,12 +114,12 @@ turn-first code pattern line places p seen taken list pending x rows count steps
   unwon = λ e. refl;
   waits = tt;
   bounded = λ e. omega (arith, low-most places (p + 1) seen);
-  stands = λ k s sh h. record { state = s; shows = sh; rest = (k, h, refl) };
+  stands = λ line along k s sh h. record { state = s; shows = sh; rest = (k, h, refl) };
 }
 
-module _ {code pattern line : List ℕ} {places p : ℕ} {seen₀ taken₀ list₀ pending₀ : List ℕ} {x₀ : ℕ} {rows₀ : Rows} {count₀ steps₀ : ℕ}
+module _ {code pattern : List ℕ} {there : Bool} {byte places p : ℕ} {seen₀ taken₀ list₀ pending₀ : List ℕ} {x₀ : ℕ} {rows₀ : Rows} {count₀ steps₀ : ℕ}
     {seen taken list pending : List ℕ} {x floor : ℕ} {rows : Rows} {count steps waiting : ℕ} {alive goes done : Bool}
-    (t : Turn code pattern line places p seen₀ taken₀ list₀ pending₀ x₀ rows₀ count₀ steps₀ seen taken list pending x floor rows count steps waiting alive goes done) where
+    (t : Turn code pattern there byte places p seen₀ taken₀ list₀ pending₀ x₀ rows₀ count₀ steps₀ seen taken list pending x floor rows count steps waiting alive goes done) where
   -- the pair's entry is inside
   pub turn-cell : floor + x < length seen
   turn-cell = omega (arith, cell-inside (t .asked .wired) x (t .level) (t .inside) (t .low), t .long, t .floor-is)
@@ -133,39 +133,39 @@ module _ {code pattern line : List ℕ} {places p : ℕ} {seen₀ taken₀ list�
   turn-numbers = omega (arith, t .asked .wired .long, t .inside)
 
   -- a thread is next
-  going : alive ≡ true → goes ≡ true → (k : ℕ) (s : State) → Shows places (p + 1) seen₀ taken₀ list₀ count₀ steps₀ false s → left (p + 1) seen₀ < k
+  going : (line : List ℕ) → AheadIn line p there byte → alive ≡ true → goes ≡ true → (k : ℕ) (s : State) → Shows places (p + 1) seen₀ taken₀ list₀ count₀ steps₀ false s → left (p + 1) seen₀ < k
       → Stands code pattern line places p seen taken list count steps true false (at x (t .level) rows ∷ t .waiters) (visit k (decode code pattern places) line p (at x₀ 0 rows₀) s)
-  going lives go k s sh h =
+  going line along lives go k s sh h =
       subst (λ (a : Bool). Stands code pattern line places p seen taken list count steps true false (cond a (at x (t .level) rows ∷ t .waiters) (t .waiters))
       (visit k (decode code pattern places) line p (at x₀ 0 rows₀) s)) lives
       (subst₂ (λ (g d : Bool). Stands code pattern line places p seen taken list count steps g d (cond alive (at x (t .level) rows ∷ t .waiters) (t .waiters))
-      (visit k (decode code pattern places) line p (at x₀ 0 rows₀) s)) go (t .unwon go) (t .stands k s sh h))
+      (visit k (decode code pattern places) line p (at x₀ 0 rows₀) s)) go (t .unwon go) (t .stands line along k s sh h))
 
   -- none is next
-  resting : alive ≡ false → goes ≡ true → (k : ℕ) (s : State) → Shows places (p + 1) seen₀ taken₀ list₀ count₀ steps₀ false s → left (p + 1) seen₀ < k
+  resting : (line : List ℕ) → AheadIn line p there byte → alive ≡ false → goes ≡ true → (k : ℕ) (s : State) → Shows places (p + 1) seen₀ taken₀ list₀ count₀ steps₀ false s → left (p + 1) seen₀ < k
       → Stands code pattern line places p seen taken list count steps true done (t .waiters) (visit k (decode code pattern places) line p (at x₀ 0 rows₀) s)
-  resting dead go k s sh h =
+  resting line along dead go k s sh h =
       subst (λ (a : Bool). Stands code pattern line places p seen taken list count steps true done (cond a (at x (t .level) rows ∷ t .waiters) (t .waiters))
       (visit k (decode code pattern places) line p (at x₀ 0 rows₀) s)) dead
       (subst (λ (g : Bool). Stands code pattern line places p seen taken list count steps g done (cond alive (at x (t .level) rows ∷ t .waiters) (t .waiters))
-      (visit k (decode code pattern places) line p (at x₀ 0 rows₀) s)) go (t .stands k s sh h))
+      (visit k (decode code pattern places) line p (at x₀ 0 rows₀) s)) go (t .stands line along k s sh h))
 
   -- at the end, what the visit promises
-  pub turn-last : goes ≡ false → Visits code pattern line places p x₀ rows₀ seen₀ taken₀ list₀ count₀ steps₀ seen taken list count steps done
-  turn-last e = record {
+  pub turn-last : goes ≡ false → (line : List ℕ) → AheadIn line p there byte → Visits code pattern line places p x₀ rows₀ seen₀ taken₀ list₀ count₀ steps₀ seen taken list count steps done
+  turn-last e line along = record {
     under = t .under;
     carried = t .carried;
     each = t .each;
     fewer = t .fewer;
     shows = λ k s sh h.
         let st = subst (λ (g : Bool). Stands code pattern line places p seen taken list count steps g done (cond alive (at x (t .level) rows ∷ t .waiters) (t .waiters))
-        (visit k (decode code pattern places) line p (at x₀ 0 rows₀) s)) e (t .stands k s sh h) in
+        (visit k (decode code pattern places) line p (at x₀ 0 rows₀) s)) e (t .stands line along k s sh h) in
         subst (Shows places (p + 1) seen taken list count steps done) (sym (st .rest)) (st .shows);
   }
 
   -- no branch waits: the loop ends
   pub turn-end : alive ≡ false → goes ≡ true → waiting ≡ 0
-      → Turn code pattern line places p seen₀ taken₀ list₀ pending₀ x₀ rows₀ count₀ steps₀ seen taken list pending x floor rows count steps waiting alive false done
+      → Turn code pattern there byte places p seen₀ taken₀ list₀ pending₀ x₀ rows₀ count₀ steps₀ seen taken list pending x floor rows count steps waiting alive false done
   turn-end dead go none = record {
     asked = t .asked;
     level = t .level;
@@ -185,10 +185,10 @@ module _ {code pattern line : List ℕ} {places p : ℕ} {seen₀ taken₀ list�
     unwon = λ f. cc;
     waits = t .waits;
     bounded = t .bounded;
-    stands = λ k s sh h.
+    stands = λ line along k s sh h.
         let final = visit k (decode code pattern places) line p (at x₀ 0 rows₀) s in
         let st = subst (λ (ts : List Thread). Stands code pattern line places p seen taken list count steps true done ts final)
-        (waits-none places (t .asked .wired .deep) pending (leftLow places (p + 1) seen) waiting (t .waiters) none (t .waits)) (resting dead go k s sh h) in
+        (waits-none places (t .asked .wired .deep) pending (leftLow places (p + 1) seen) waiting (t .waiters) none (t .waits)) (resting line along dead go k s sh h) in
         record { state = st .state; shows = st .shows; rest = st .rest };
   }
 
@@ -213,7 +213,7 @@ module _ {code pattern line : List ℕ} {places p : ℕ} {seen₀ taken₀ list�
 
     pub turn-resume : alive ≡ false → goes ≡ true → (x′ floor′ : ℕ) (rows′ : Rows) → x′ ≡ getD pending (22 * (waiting - 1) + 1) 0
         → floor′ ≡ getD pending (22 * (waiting - 1)) 0 → rows′ ≡ rowsFrom pending (22 * (waiting - 1) + 1)
-        → Turn code pattern line places p seen₀ taken₀ list₀ pending₀ x₀ rows₀ count₀ steps₀ seen taken list pending x′ floor′ rows′ count steps (waiting - 1) true goes done
+        → Turn code pattern there byte places p seen₀ taken₀ list₀ pending₀ x₀ rows₀ count₀ steps₀ seen taken list pending x′ floor′ rows′ count steps (waiting - 1) true goes done
     turn-resume dead go x′ floor′ rows′ ex ef er =
         let b = taken-branch in
         let w = b .waiter in
@@ -238,12 +238,12 @@ module _ {code pattern line : List ℕ} {places p : ℕ} {seen₀ taken₀ list�
           unwon = t .unwon;
           waits = b .waits;
           bounded = λ e. subst (λ (y : ℕ). waiting - 1 + leftLow places (p + 1) seen ≤ places + reach (b .thread .level) y) (sym place-is) (w .bounded);
-          stands = λ k s sh h.
+          stands = λ line along k s sh h.
               let final = visit k (decode code pattern places) line p (at x₀ 0 rows₀) s in
               subst₂ (λ (y : ℕ) (r : Rows). Stands code pattern line places p seen taken list count steps goes done (at y (b .thread .level) r ∷ b .others) final)
               (sym place-is) (sym rows-are)
               (subst (λ (g : Bool). Stands code pattern line places p seen taken list count steps g done (b .thread ∷ b .others) final) (sym go)
-              (subst (λ (ts : List Thread). Stands code pattern line places p seen taken list count steps true done ts final) (b .all-are) (resting dead go k s sh h)));
+              (subst (λ (ts : List Thread). Stands code pattern line places p seen taken list count steps true done ts final) (b .all-are) (resting line along dead go k s sh h)));
         }
 
     pub less-resume : alive ≡ false → turns p seen (waiting - 1) true goes < turns p seen waiting alive goes
@@ -271,7 +271,7 @@ module _ {code pattern line : List ℕ} {places p : ℕ} {seen₀ taken₀ list�
 
     -- the pair was seen: the thread has come to its end
     pub turn-seen : fresh ≡ false
-        → Turn code pattern line places p seen₀ taken₀ list₀ pending₀ x₀ rows₀ count₀ steps₀ seen′ taken list pending x floor rows count steps waiting false goes done
+        → Turn code pattern there byte places p seen₀ taken₀ list₀ pending₀ x₀ rows₀ count₀ steps₀ seen′ taken list pending x floor rows count steps waiting false goes done
     turn-seen e =
         let same : seen′ ≡ seen = same-seen e in
         let amount : left (p + 1) seen′ ≡ left (p + 1) seen = ap (left (p + 1)) same in
@@ -294,12 +294,12 @@ module _ {code pattern line : List ℕ} {places p : ℕ} {seen₀ taken₀ list�
           unwon = t .unwon;
           waits = subst (λ (table : List ℕ). Waits places (t .asked .wired .deep) pending (leftLow places (p + 1) table) waiting (t .waiters)) (sym same) (t .waits);
           bounded = λ f. never f;
-          stands = λ k s sh h.
+          stands = λ line along k s sh h.
               let final = visit k (decode code pattern places) line p (at x₀ 0 rows₀) s in
               subst₂ (λ (g d : Bool). Stands code pattern line places p seen′ taken list count steps g d (t .waiters) final) (sym go) (sym (t .unwon go))
               (subst (λ (table : List ℕ). Stands code pattern line places p table taken list count steps true false (t .waiters) final) (sym (cell .1))
               (stands-seen code pattern line places p seen taken list count steps x (t .level) rows (t .waiters) final (t .inside) room fresh (cell .0)
-              (going lives go k s sh h) e));
+              (going line along lives go k s sh h) e));
         }
 
     pub less-seen : fresh ≡ false → turns p seen′ waiting false goes < turns p seen waiting alive goes
@@ -407,7 +407,7 @@ module _ {code pattern line : List ℕ} {places p : ℕ} {seen₀ taken₀ list�
             five (no n5) = four n5 (ℕ-discrete kind 4)
 
         pub turn-lead : 0 < kind → kind < 6 → (goes′ : Bool) (floor′ : ℕ) (rows′ : Rows) → Leads kind a n p places floor rows goes′ floor′ rows′
-            → Turn code pattern line places p seen₀ taken₀ list₀ pending₀ x₀ rows₀ count₀ steps₀
+            → Turn code pattern there byte places p seen₀ taken₀ list₀ pending₀ x₀ rows₀ count₀ steps₀
             seen′ taken list pending next floor′ rows′ count (steps + 1) waiting goes′ goes done
         turn-lead lo hi goes′ floor′ rows′ made = record {
           asked = t .asked;
@@ -430,13 +430,13 @@ module _ {code pattern line : List ℕ} {places p : ℕ} {seen₀ taken₀ list�
           unwon = t .unwon;
           waits = waits-on;
           bounded = bounded-lead lo hi goes′ floor′ rows′ made;
-          stands = λ k s sh h.
+          stands = λ line along k s sh h.
               let final = visit k (decode code pattern places) line p (at x₀ 0 rows₀) s in
               let ts = cond goes′ (at next (levelAfter kind (t .level)) rows′ ∷ t .waiters) (t .waiters) in
               subst₂ (λ (g d : Bool). Stands code pattern line places p seen′ taken list count (steps + 1) g d ts final) (sym go) (sym (t .unwon go))
               (subst (λ (table : List ℕ). Stands code pattern line places p table taken list count (steps + 1) true false ts final) (sym (cell .1))
               (stands-lead code pattern line places p seen taken list count steps x (t .level) rows (t .waiters) final (t .inside) room fresh (cell .0)
-              (going lives go k s sh h) new kind next a n read floor (t .floor-is) goes′ floor′ rows′ made));
+              (going line along lives go k s sh h) new kind next a n read floor (t .floor-is) goes′ floor′ rows′ made));
         }
 
         pub settle-asked : 6 ≤ kind → Settling pattern p kind next a n taken list count
@@ -450,8 +450,8 @@ module _ {code pattern line : List ℕ} {places p : ℕ} {seen₀ taken₀ list�
         }
 
         pub turn-settle : (taken′ list′ : List ℕ) (count′ : ℕ) (done′ : Bool) → length taken′ ≡ length taken → length list′ ≡ length list
-            → Settles pattern line p kind next a n rows taken list count taken′ list′ count′ done′
-            → Turn code pattern line places p seen₀ taken₀ list₀ pending₀ x₀ rows₀ count₀ steps₀
+            → Settles pattern there byte p kind next a n rows taken list count taken′ list′ count′ done′
+            → Turn code pattern there byte places p seen₀ taken₀ list₀ pending₀ x₀ rows₀ count₀ steps₀
             seen′ taken′ list′ pending x floor rows count′ (steps + 1) waiting false (not done′) done′
         turn-settle taken′ list′ count′ done′ same-taken same-list made = record {
           asked = t .asked;
@@ -472,11 +472,11 @@ module _ {code pattern line : List ℕ} {places p : ℕ} {seen₀ taken₀ list�
           unwon = not-true done′;
           waits = waits-on;
           bounded = λ f. never f;
-          stands = λ k s sh h.
+          stands = λ line along k s sh h.
               let final = visit k (decode code pattern places) line p (at x₀ 0 rows₀) s in
               subst (λ (table : List ℕ). Stands code pattern line places p table taken′ list′ count′ (steps + 1) (not done′) done′ (t .waiters) final) (sym (cell .1))
               (stands-settle code pattern line places p seen taken list count steps x (t .level) rows (t .waiters) final (t .inside) room fresh (cell .0)
-              (going lives go k s sh h) new kind next a n read taken′ list′ count′ done′ made);
+              (going line along lives go k s sh h) new kind next a n read there byte along taken′ list′ count′ done′ made);
         }
 
         module _ (forks : kind ≡ 0) where
@@ -495,7 +495,7 @@ module _ {code pattern line : List ℕ} {places p : ℕ} {seen₀ taken₀ list�
           )
 
           pub turn-fork : (pending′ : List ℕ) → pending′ ≡ waited pending waiting floor a rows
-              → Turn code pattern line places p seen₀ taken₀ list₀ pending₀ x₀ rows₀ count₀ steps₀
+              → Turn code pattern there byte places p seen₀ taken₀ list₀ pending₀ x₀ rows₀ count₀ steps₀
               seen′ taken list pending′ next floor rows count (steps + 1) (waiting + 1) alive goes done
           turn-fork pending′ same =
               let deep-next : t .level ≤ t .asked .wired .deep next =
@@ -526,12 +526,12 @@ module _ {code pattern line : List ℕ} {places p : ℕ} {seen₀ taken₀ list�
                     (waits-more pending waiting floor a rows (t .rows-long) (fork-asked .0) places (t .asked .wired .deep) (leftLow places (p + 1) seen) (leftLow places (p + 1) seen′)
                     (t .level) (t .waiters) low-fewer (t .floor-is) other-inside deep-other (omega (arith, bounded-on (t .level) a refl other-ahead)) (t .waits));
                 bounded = λ e. omega (arith, bounded-on (t .level) next refl (next-ahead (omega arith)));
-                stands = λ k s sh h.
+                stands = λ line along k s sh h.
                     let final = visit k (decode code pattern places) line p (at x₀ 0 rows₀) s in
                     let ts = at next (t .level) rows ∷ at a (t .level) rows ∷ t .waiters in
                     subst (λ (b : Bool). Stands code pattern line places p seen′ taken list count (steps + 1) goes done (cond b ts (at a (t .level) rows ∷ t .waiters)) final) (sym lives)
                     (subst₂ (λ (g d : Bool). Stands code pattern line places p seen′ taken list count (steps + 1) g d ts final) (sym go) (sym (t .unwon go))
                     (subst (λ (table : List ℕ). Stands code pattern line places p table taken list count (steps + 1) true false ts final) (sym (cell .1))
                     (stands-fork code pattern line places p seen taken list count steps x (t .level) rows (t .waiters) final (t .inside) room fresh (cell .0)
-                    (going lives go k s sh h) new kind next a n read forks)));
+                    (going line along lives go k s sh h) new kind next a n read forks)));
               }

@@ -1,5 +1,5 @@
 -- The moves of the places that lead nowhere at once, by number: a set eats or dies, accept wins or dies, any other dies.
-use Prim.Native.Nat.{ℕ, _≤_, _<_}
+use Prim.Native.Nat.{ℕ, _≤_}
 use mathlib.Core.Path.{_≡_, sym, ap, _∙_}
 use mathlib.Core.Bool.{Bool, true, false, cond}
 use mathlib.Core.List.{List}
@@ -21,19 +21,7 @@ module _ (pattern line : List ℕ) (kind next a n p level : ℕ) (rows : Rows) w
   move-if : (k : ℕ) → kind ≡ k → moveAt (placeOf pattern kind next a n) line p level rows ≡ moveAt (placeOf pattern k next a n) line p level rows
   move-if k e = ap (λ (j : ℕ). moveAt (placeOf pattern j next a n) line p level rows) e
 
-  -- a place that takes the byte is a set
-  pub eats-kind : takesAt (placeOf pattern kind next a n) line p ≡ true → kind < 8
-  eats-kind h = six (ℕ-discrete kind 6)
-    where
-      seven : (kind ≡ 6 → ⊥) → Dec (kind ≡ 7) → kind < 8
-      seven n6 (yes e) = omega arith
-      seven n6 (no n7) = let z : _≡_ {A = Bool} true false = sym h ∙ sym (eats-none pattern line kind next a n p n6 n7) in let y : _≡_ {A = ℕ} 0 1 = cc in absurd (omega arith)
-
-      six : Dec (kind ≡ 6) → kind < 8
-      six (yes e) = omega arith
-      six (no n6) = seven n6 (ℕ-discrete kind 7)
-
-  -- and goes on to its follower
+  -- a place that takes the byte goes on to its follower
   pub move-eat : takesAt (placeOf pattern kind next a n) line p ≡ true → moveAt (placeOf pattern kind next a n) line p level rows ≡ Move.eat next
   move-eat h = six (ℕ-discrete kind 6)
     where

@@ -1,41 +1,28 @@
 -- The kinds of place by number: what four numbers stand for, and what such a place does to a thread.
 use Prim.Native.Nat.{ℕ, zero, suc, _+_, _*_, _≤_, _<_}
 use mathlib.Core.Path.{_≡_, refl, sym, ap, _∙_, subst}
-use mathlib.Core.Bool.{Bool, true, false, cond}
-use mathlib.Core.List.{List}
+use mathlib.Core.Bool.{Bool, true, false, cond, _&&_, _||_}
+use mathlib.Core.List.{List, [], _∷_}
 use native.Mathlib.Omega.{arith}
 use native.Mathlib.Decide.{ℕ-discrete}
 use native.Mathlib.Nat.{suc-mul, zero-mul, one-mul, add-mul}
 use native.Mathlib.Numerals.{add-one}
-use borrow.Author.Tests.{ne-eqb, eqb-true}
-use lib.Dec.{eqb, eqb·suc-zero}
-use lib.ListN.{length, getD, set, length-set}
+use borrow.Author.Tests.{ne-eqb, eqb-true, ltb-false}
+use lib.Dec.{eqb, leb, eqb·suc-zero}
+use lib.ListN.{length, set, length-set}
+use Rattle.paper.specs.Pattern.{Range}
 use Rattle.paper.specs.Rows.{Rows, clear}
-use Rattle.paper.specs.Reading.{inSet, takes, everyByte}
+use Rattle.paper.specs.Reading.{inSet}
 use Rattle.paper.specs.Check.{rangesOf, part}
 use Rattle.paper.specs.Machine.{Place, Thread, at, State, Move, follow, moveAt}
 use Rattle.paper.specs.Tables.{placeOf}
 use Rattle.paper.proofs.RowLaws.{length-clear}
 use Rattle.visit.specs.Wired.{levelAfter, Slots}
-use Rattle.visit.specs.Moves.{takesAt, Leads}
-use Rattle.visit.proofs.Ranges.{takes-held, takes-none, takes-every}
+use Rattle.visit.specs.Shows.{AheadIn}
+use Rattle.visit.specs.Moves.{takesAt, Eats, Leads}
+use Rattle.visit.proofs.Ranges.{takes-ahead, takes-none, or-false}
 
 -- ---- the byte that a place takes
-
--- a set of the pattern
-pub eats-set : (pattern line : List ℕ) (kind next a n q p : ℕ) → kind ≡ 6 → q ≡ p → q < length line
-    → inSet (rangesOf (part pattern a (a + 2 * n))) (getD line q 0) ≡ takesAt (placeOf pattern kind next a n) line p
-eats-set pattern line kind next a n q p e same h =
-    sym (takes-held (rangesOf (part pattern a (a + 2 * n))) line q h)
-    ∙ (ap (λ (i : ℕ). takes (rangesOf (part pattern a (a + 2 * n))) line i) same
-    ∙ ap (λ (k : ℕ). takesAt (placeOf pattern k next a n) line p) (sym e))
-
--- the set of every byte
-pub eats-any : (pattern line : List ℕ) (kind next a n q p : ℕ) → kind ≡ 7 → q ≡ p → q < length line → getD line q 0 < 256
-    → true ≡ takesAt (placeOf pattern kind next a n) line p
-eats-any pattern line kind next a n q p e same h small =
-    sym (takes-every line q h small)
-    ∙ (ap (λ (i : ℕ). takes everyByte line i) same ∙ ap (λ (k : ℕ). takesAt (placeOf pattern k next a n) line p) (sym e))
 
 -- no place takes a byte behind the line
 takes-nothing : (place : Place) (line : List ℕ) (p : ℕ) → length line ≤ p → takesAt place line p ≡ false
@@ -48,9 +35,6 @@ takes-nothing (Place.begin first n next) line p h = refl
 takes-nothing (Place.beginOptional first n next) line p h = refl
 takes-nothing (Place.ending next) line p h = refl
 takes-nothing Place.accept line p h = refl
-
-pub eats-end : (pattern line : List ℕ) (kind next a n q p : ℕ) → q ≡ p → length line ≤ q → false ≡ takesAt (placeOf pattern kind next a n) line p
-eats-end pattern line kind next a n q p same h = sym (takes-nothing (placeOf pattern kind next a n) line p (omega arith))
 
 -- a place of another kind takes none
 no-set : (b0 b1 b2 b3 b4 b5 b9 : Bool) (p0 p1 p2 p3 p4 p5 : ℕ → ℕ → ℕ → Place) (next a n : ℕ) (line : List ℕ) (p : ℕ)
@@ -82,6 +66,44 @@ eats-none pattern line kind next a n p h6 h7 =
     ∙ no-set (eqb kind 0) (eqb kind 1) (eqb kind 2) (eqb kind 3) (eqb kind 4) (eqb kind 5) (eqb kind 9)
     (λ x y m. Place.fork x y) (λ x y m. Place.opening y x) (λ x y m. Place.closing y x) (λ x y m. Place.begin y m x)
     (λ x y m. Place.beginOptional y m x) (λ x y m. Place.ending x) next a n line p refl refl refl refl refl refl)
+
+module _ (pattern : List ℕ) (there : Bool) (byte kind a n : ℕ) where
+  -- it takes none
+  eats-not : ((line : List ℕ) (p next : ℕ) → AheadIn line p there byte → false ≡ takesAt (placeOf pattern kind next a n) line p)
+      → Eats pattern there byte kind a n false
+  eats-not none = record {
+    leads = λ e. let one : _≡_ {A = ℕ} 0 1 = ap (λ (b : Bool). cond b 1 0) e in absurd (omega arith);
+    takes-it = none;
+  }
+
+  -- at the line's end
+  pub eats-end : there ≡ false → Eats pattern there byte kind a n false
+  eats-end e =
+      eats-not (λ line p next along. sym (takes-nothing (placeOf pattern kind next a n) line p (ltb-false p (length line) (sym (along .is-there) ∙ e))))
+
+  -- because it is of another kind
+  pub eats-other : (kind ≡ 6 → ⊥) → (kind ≡ 7 → ⊥) → Eats pattern there byte kind a n false
+  eats-other n6 n7 = eats-not (λ line p next along. eats-none pattern line kind next a n p n6 n7)
+
+  -- a set takes the byte that is there, if it holds it
+  eats-held : (k : ℕ) → k < 8 → (ranges : List Range) → ((next : ℕ) → placeOf pattern k next a n ≡ Place.set ranges next) → kind ≡ k → there ≡ true
+      → (r : Bool) → r ≡ inSet ranges byte → Eats pattern there byte kind a n r
+  eats-held k low ranges is-set e h r held = record {
+    leads = λ f. omega arith;
+    takes-it = λ line p next along.
+        held
+        ∙ (sym (takes-ahead ranges line p there byte along h)
+        ∙ (ap (λ (x : Place). takesAt x line p) (sym (is-set next)) ∙ ap (λ (j : ℕ). takesAt (placeOf pattern j next a n) line p) (sym e)));
+  }
+
+  -- a set of the pattern
+  pub eats-set : kind ≡ 6 → there ≡ true → (r : Bool) → r ≡ inSet (rangesOf (part pattern a (a + 2 * n))) byte → Eats pattern there byte kind a n r
+  eats-set = eats-held 6 (omega arith) (rangesOf (part pattern a (a + 2 * n))) (λ next. refl)
+
+  -- a range
+  pub eats-range : kind ≡ 7 → there ≡ true → (r : Bool) → r ≡ (leb a byte && leb byte n) → Eats pattern there byte kind a n r
+  eats-range e h r held =
+      eats-held 7 (omega arith) (record { low = a; high = n } ∷ []) (λ next. refl) e h r (held ∙ sym (or-false (leb a byte && leb byte n)))
 
 -- ---- where a place leads at once
 

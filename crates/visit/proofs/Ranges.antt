@@ -5,14 +5,15 @@ use mathlib.Core.Bool.{Bool, true, false, _&&_, _||_}
 use mathlib.Core.List.{List, _∷_}
 use native.Mathlib.Omega.{arith}
 use native.Mathlib.Numerals.{add-one}
-use borrow.Author.Tests.{le-leb, lt-leb, lt-ltb, le-ltb}
+use borrow.Author.Tests.{le-leb, lt-leb, le-ltb}
 use lib.Dec.{leb}
 use lib.ListN.{length, getD, take, drop, set}
 use lib.Seq.{drop-cons}
 use Rattle.paper.specs.Pattern.{Range}
 use Rattle.paper.specs.Rows.{Rows, clear}
-use Rattle.paper.specs.Reading.{inSet, takes, everyByte}
+use Rattle.paper.specs.Reading.{inSet, takes}
 use Rattle.paper.specs.Check.{rangesOf, part}
+use Rattle.visit.specs.Shows.{AheadIn}
 
 -- whether so many ranges from an offset of the pattern hold a byte
 abbrev pub held : List ℕ → ℕ → ℕ → ℕ → Bool
@@ -64,20 +65,19 @@ held-above pattern p many byte h fits high =
     ∙ ap (λ (b : Bool). b || held pattern (p + 2) (many - 1) byte)
     (and-false (leb (getD pattern p 0) byte) (leb byte (getD pattern (p + 1) 0)) (lt-leb byte (getD pattern (p + 1) 0) high))
 
--- a set takes what it holds, where there is a byte
-pub takes-held : (ranges : List Range) (line : List ℕ) (p : ℕ) → p < length line → takes ranges line p ≡ inSet ranges (getD line p 0)
-takes-held ranges line p h = ap (λ (b : Bool). b && inSet ranges (getD line p 0)) (lt-ltb p (length line) h)
+pub or-false : (b : Bool) → (b || false) ≡ b
+or-false true = refl
+or-false false = refl
+
+-- a set takes the byte ahead, if it holds it
+pub takes-ahead : (ranges : List Range) (line : List ℕ) (p : ℕ) (there : Bool) (byte : ℕ) → AheadIn line p there byte → there ≡ true
+    → takes ranges line p ≡ inSet ranges byte
+takes-ahead ranges line p there byte along e =
+    ap (λ (b : Bool). b && inSet ranges (getD line p 0)) (sym (along .is-there) ∙ e) ∙ ap (inSet ranges) (sym (along .is-byte e))
 
 -- and nothing where there is none
 pub takes-none : (ranges : List Range) (line : List ℕ) (p : ℕ) → length line ≤ p → takes ranges line p ≡ false
 takes-none ranges line p h = ap (λ (b : Bool). b && inSet ranges (getD line p 0)) (le-ltb p (length line) h)
-
--- every byte is taken
-pub takes-every : (line : List ℕ) (p : ℕ) → p < length line → getD line p 0 < 256 → takes everyByte line p ≡ true
-takes-every line p h small =
-    takes-held everyByte line p h
-    ∙ (ap (λ (b : Bool). (b && leb (getD line p 0) 255) || false) (le-leb 0 (getD line p 0) (omega arith))
-    ∙ ap (λ (b : Bool). b || false) (le-leb (getD line p 0) 255 (omega arith)))
 
 -- one row is cleared, and then the others
 pub clear-more : (k many : ℕ) (rows : Rows) → 0 < many

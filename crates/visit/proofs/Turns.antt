@@ -15,7 +15,7 @@ use Rattle.paper.specs.Tables.{decode, placeAt, placeOf}
 use Rattle.paper.proofs.Once.{visit-blocked}
 use Rattle.visit.specs.Threads.{left, rowsIn}
 use Rattle.visit.specs.Wired.{kindAt, nextAt, firstAt, manyAt, levelAfter}
-use Rattle.visit.specs.Shows.{Shows}
+use Rattle.visit.specs.Shows.{AheadIn, Shows}
 use Rattle.visit.specs.Moves.{Leads, Settles}
 use Rattle.visit.proofs.Stamps.{left-mark, mark-same}
 use Rattle.visit.proofs.Cells.{decode-at, blocked-shown, shows-mark}
@@ -160,12 +160,13 @@ module _ (code pattern line : List ℕ) (places p : ℕ) (seen taken list : List
         }
 
     -- the place leads nowhere at once
-    pub stands-settle : (taken′ list′ : List ℕ) (count′ : ℕ) (done : Bool) → Settles pattern line p kind next a n rows taken list count taken′ list′ count′ done
+    pub stands-settle : (there : Bool) (byte : ℕ) → AheadIn line p there byte → (taken′ list′ : List ℕ) (count′ : ℕ) (done : Bool)
+        → Settles pattern there byte p kind next a n rows taken list count taken′ list′ count′ done
         → Stands code pattern line places p (set seen (l * places + x) (p + 1)) taken′ list′ count′ (steps + 1) (not done) done ts final
-    stands-settle taken′ list′ count′ done made =
+    stands-settle there byte along taken′ list′ count′ done made =
         let m = marked new in
         let after = follow (visit (m .fuel) (decode code pattern places) line p) (at x l rows) (moveAt (placeOf pattern kind next a n) line p l rows) (m .state) in
-        let shown = made .shows places (set seen (l * places + x) (p + 1)) (steps + 1) x l (visit (m .fuel) (decode code pattern places) line p) (m .state) (m .shows) in
+        let shown = made .shows line along places (set seen (l * places + x) (p + 1)) (steps + 1) x l (visit (m .fuel) (decode code pattern places) line p) (m .state) (m .shows) in
         record {
           state = after;
           shows = shown;

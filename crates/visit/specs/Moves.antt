@@ -12,7 +12,7 @@ use Rattle.paper.specs.Machine.{Place, Thread, at, State, follow, moveAt}
 use Rattle.paper.specs.Tables.{placeOf, endPlace, setPlace, stopPlace}
 use Rattle.visit.specs.Threads.{threadNumbers, stored}
 use Rattle.visit.specs.Wired.{levelAfter}
-use Rattle.visit.specs.Shows.{Shows, Carried}
+use Rattle.visit.specs.Shows.{AheadIn, Shows, Carried}
 
 -- whether a place takes the byte at a position
 abbrev pub takesAt : Place → List ℕ → ℕ → Bool
@@ -25,6 +25,11 @@ takesAt (Place.begin first n next) line p = false
 takesAt (Place.beginOptional first n next) line p = false
 takesAt (Place.ending next) line p = false
 takesAt Place.accept line p = false
+
+-- whether four numbers take the byte ahead: as the place that they stand for does in every line that has it there
+pub record Eats (pattern : List ℕ) (there : Bool) (byte kind a n : ℕ) (r : Bool) : Type 0 where
+  pub leads : r ≡ true → kind < stopPlace
+  pub takes-it : (line : List ℕ) (p next : ℕ) → AheadIn line p there byte → r ≡ takesAt (placeOf pattern kind next a n) line p
 
 -- a thread carried to a follower: marked, and stored behind the others if it had no mark
 pub record Carries (taken list : List ℕ) (next stamp : ℕ) (rows : Rows) (count : ℕ) (taken′ list′ : List ℕ) (count′ : ℕ) : Type 0 where
@@ -49,11 +54,11 @@ pub record Settling (pattern : List ℕ) (p kind next a n : ℕ) (taken list : L
   pub ranges : kind ≡ setPlace → a + 2 * n ≤ length pattern
   pub carried : Carried (length taken) (p + 1) taken list count
 
--- what it leaves: the state after its move, whatever is seen
-pub record Settles (pattern line : List ℕ) (p kind next a n : ℕ) (rows : Rows) (taken list : List ℕ) (count : ℕ) (taken′ list′ : List ℕ) (count′ : ℕ) (done : Bool)
+-- what it leaves: the state after its move, whatever is seen, in every line that has this byte ahead
+pub record Settles (pattern : List ℕ) (there : Bool) (byte p kind next a n : ℕ) (rows : Rows) (taken list : List ℕ) (count : ℕ) (taken′ list′ : List ℕ) (count′ : ℕ) (done : Bool)
     : Type 0 where
   pub carried : Carried (length taken) (p + 1) taken′ list′ count′
-  pub shows : (places : ℕ) (seen : List ℕ) (steps place level : ℕ) (visit : Thread → State → State) (s : State)
+  pub shows : (line : List ℕ) → AheadIn line p there byte → (places : ℕ) (seen : List ℕ) (steps place level : ℕ) (visit : Thread → State → State) (s : State)
       → Shows places (p + 1) seen taken list count steps false s
       → Shows places (p + 1) seen taken′ list′ count′ steps done
       (follow visit (at place level rows) (moveAt (placeOf pattern kind next a n) line p level rows) s)

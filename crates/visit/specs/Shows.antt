@@ -2,10 +2,10 @@
 -- The list holds the first thread carried to each follower, in order, and behind them the winner.
 use Prim.Native.Nat.{ℕ, _+_, _*_, _≤_, _<_, _^_}
 use mathlib.Core.Path.{_≡_}
-use mathlib.Core.Bool.{Bool, false, cond}
+use mathlib.Core.Bool.{Bool, true, false, cond}
 use mathlib.Core.List.{List}
 use mathlib.Core.Option.{none, some}
-use lib.Dec.{eqb}
+use lib.Dec.{eqb, ltb}
 use lib.ListN.{length, getD}
 use Rattle.paper.specs.Limits.{absent}
 use Rattle.paper.specs.Rows.{Rows}
@@ -14,6 +14,12 @@ use Rattle.paper.specs.Tables.{decode}
 use Rattle.paper.proofs.Once.{once, pairsOf}
 use Rattle.visit.specs.Threads.{threadNumbers, branchNumbers, rowsIn, placeIn, threads, left}
 use Rattle.visit.specs.Wired.{Wired}
+
+-- what stands in a line at a position inside it or at its end: whether a byte does, and which
+pub record AheadIn (line : List ℕ) (p : ℕ) (there : Bool) (byte : ℕ) : Type 0 where
+  pub within : p ≤ length line
+  pub is-there : there ≡ ltb p (length line)
+  pub is-byte : there ≡ true → byte ≡ getD line p 0
 
 -- the state that the tables show
 pub record Shows (places stamp : ℕ) (seen taken list : List ℕ) (count steps : ℕ) (done : Bool) (s : State) : Type 0 where

@@ -2,19 +2,20 @@
 use pattern::PlaceKind;
 use pattern::Spans;
 ghost use mathlib.Core.Path.{_≡_};
-ghost use mathlib.Core.Bool.{not};
+ghost use mathlib.Core.Bool.{not, _&&_};
+ghost use mathlib.Core.List.{List};
 ghost use Prim.Native.Nat.{ℕ, _+_, _*_, _≤_, _<_, _^_};
-ghost use lib.Dec.{eqb};
+ghost use lib.Dec.{eqb, leb};
 ghost use lib.ListN.{length, getD, set};
 ghost use Rattle.paper.specs.Limits.{rowCount};
 ghost use Rattle.paper.specs.Rows.{clear};
 ghost use Rattle.paper.specs.Reading.{inSet};
 ghost use Rattle.paper.specs.Check.{rangesOf, part};
-ghost use Rattle.paper.specs.Tables.{placeOf, placeNumbers, forkPlace, setPlace};
+ghost use Rattle.paper.specs.Tables.{placeNumbers, forkPlace, setPlace};
 ghost use Rattle.visit.specs.Threads.{threadNumbers, branchNumbers, stored, waited, rowsFrom};
 ghost use Rattle.visit.specs.Wired.{kindAt, nextAt, firstAt, manyAt, Slots};
-ghost use Rattle.visit.specs.Shows.{Arrives, Visits};
-ghost use Rattle.visit.specs.Moves.{takesAt, Carries, Leads, Settling, Settles};
+ghost use Rattle.visit.specs.Shows.{AheadIn, Arrives, Visits};
+ghost use Rattle.visit.specs.Moves.{Eats, Carries, Leads, Settling, Settles};
 
 // The numbers of a thread in a list: its place, and its rows.
 pub const THREAD: usize = Spans::NUMBERS + 1;
@@ -35,9 +36,15 @@ const END: usize = PlaceKind::END as usize;
 
 const SET: usize = PlaceKind::SET as usize;
 
-const ANY: usize = PlaceKind::ANY as usize;
+const RANGE: usize = PlaceKind::RANGE as usize;
 
 const ACCEPT: usize = PlaceKind::ACCEPT as usize;
+
+// What stands at a position of the line: whether a byte does, and which.
+pub struct Ahead {
+    pub there: bool,
+    pub byte: u8,
+}
 
 // The four numbers of a place.
 struct Numbers {
@@ -106,18 +113,25 @@ fn in_set(pattern: &[u8], offset: usize, count: usize, byte: u8) -> bool
     false
 }
 
-// Whether a place takes the byte at a position. A set of the pattern, or the set of every byte.
-fn eats(pattern: &[u8], line: &[u8], kind: usize, a: usize, n: usize, at: u16) -> bool
-    requires { ⌜ (kind ≡ setPlace → a + 2 * n ≤ length (now pattern)) ⌝ }
-    ensures { λ r. ⌜ ((next : ℕ) → r ≡ takesAt (placeOf (now (pattern .entry)) kind next a n) (now (line .entry)) at) ⌝ }
+// Whether a byte lies between two numbers.
+fn in_range(low: usize, high: usize, byte: u8) -> bool
+    ensures { λ r. ⌜ r ≡ (leb low byte && leb byte high) ⌝ }
 {
-    let p = wide(at);
-    if p < line.len() {
-        if kind == SET {
-            return in_set(pattern, a, n, line[p]);
+    let b = byte as usize;
+    if low <= b { b <= high } else { false }
+}
+
+// Whether a place takes the byte ahead: it has a range, or a set of the pattern.
+fn eats(pattern: &[u8], ahead: Ahead, kind: usize, a: usize, n: usize) -> bool
+    requires { ⌜ (kind ≡ setPlace → a + 2 * n ≤ length (now pattern)) ⌝ }
+    ensures { λ r. ⌜ Eats (now (pattern .entry)) (ahead .there) (ahead .byte) kind a n r ⌝ }
+{
+    if ahead.there {
+        if kind == RANGE {
+            return in_range(a, n, ahead.byte);
         }
-        if kind == ANY {
-            return true;
+        if kind == SET {
+            return in_set(pattern, a, n, ahead.byte);
         }
     }
     false
@@ -242,30 +256,30 @@ fn lead(
 // A place that leads nowhere at once, from SET on: a set, stop, accept. The winner is stored behind the carried threads, uncounted.
 fn settle(
     pattern: &[u8],
-    line: &[u8],
     taken: &mut [u16],
     list: &mut [u16],
     here: Numbers,
+    ahead: Ahead,
     at: u16,
     groups: [u16; Spans::NUMBERS],
     count: usize,
 ) -> Settled
     requires { ⌜ Settling (now pattern) at (here .kind) (here .next) (here .a) (here .n) (now taken) (now list) count ⌝ }
-    ensures { λ r. ⌜ Settles (now (pattern .entry)) (now (line .entry)) at (here .kind) (here .next) (here .a) (here .n) groups (now (taken .entry)) (now (list .entry)) count (now (taken .exit)) (now (list .exit)) (r .count) (r .done) ⌝ }
+    ensures { λ r. ⌜ Settles (now (pattern .entry)) (ahead .there) (ahead .byte) at (here .kind) (here .next) (here .a) (here .n) groups (now (taken .entry)) (now (list .entry)) count (now (taken .exit)) (now (list .exit)) (r .count) (r .done) ⌝ }
 {
     let kind = here.kind;
-    if eats(pattern, line, kind, here.a, here.n, at) {
+    if eats(pattern, ahead, kind, here.a, here.n) {
         let carried = carry(taken, list, here.next, at + 1, groups, count);
         Settled {
             count: carried,
             done: false,
         }
     } else if kind == ACCEPT {
-        if wide(at) == line.len() {
+        if ahead.there {
+            Settled { count, done: false }
+        } else {
             store(list, THREAD * count, 0, groups);
             Settled { count, done: true }
-        } else {
-            Settled { count, done: false }
         }
     } else {
         Settled { count, done: false }
@@ -286,12 +300,12 @@ fn wait(pending: &mut [u16], index: usize, floor: usize, place: usize, rows: [u1
 pub fn visit(
     code: &[u16],
     pattern: &[u8],
-    line: &[u8],
     seen: &mut [u16],
     taken: &mut [u16],
     list: &mut [u16],
     pending: &mut [u16],
     places: usize,
+    ahead: Ahead,
     at: u16,
     start: usize,
     groups: [u16; Spans::NUMBERS],
@@ -299,7 +313,7 @@ pub fn visit(
     before: u32,
 ) -> Visited
     requires { ⌜ Arrives (now code) (now pattern) places at start (now seen) (now taken) (now list) (now pending) carried before ⌝ }
-    ensures { λ r. ⌜ Visits (now (code .entry)) (now (pattern .entry)) (now (line .entry)) places at start groups (now (seen .entry)) (now (taken .entry)) (now (list .entry)) carried before (now (seen .exit)) (now (taken .exit)) (now (list .exit)) (r .count) (r .steps) (r .done) ⌝ }
+    ensures { λ r. ⌜ ((line : List ℕ) → AheadIn line at (ahead .there) (ahead .byte) → Visits (now (code .entry)) (now (pattern .entry)) line places at start groups (now (seen .entry)) (now (taken .entry)) (now (list .entry)) carried before (now (seen .exit)) (now (taken .exit)) (now (list .exit)) (r .count) (r .steps) (r .done)) ⌝ }
 {
     let mut place = start;
     let mut floor = 0;
@@ -328,7 +342,7 @@ pub fn visit(
                     alive = o.goes;
                     place = here.next;
                 } else {
-                    let s = settle(pattern, line, taken, list, here, at, rows, count);
+                    let s = settle(pattern, taken, list, here, ahead, at, rows, count);
                     count = s.count;
                     done = s.done;
                     goes = !done;

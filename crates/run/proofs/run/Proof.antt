@@ -54,7 +54,7 @@ step-requires : tie.Need-step-requires Inv-loop μ-loop
 step-requires c κs =
     let the-loop = c .before .before .before .before .before .loop in
     let the-loop-test = c .before .before .before .before .loop-test in
-    (course-asked (the-loop .inv) (the-loop-test .taken), course-room (the-loop .inv))
+    (course-asked (the-loop .inv) (the-loop-test .taken), (course-room (the-loop .inv), the-loop .inv .position .within (the-loop-test .taken)))
 
 wide-requires : tie.Need-wide-requires Inv-loop μ-loop
 wide-requires c κs = search needs

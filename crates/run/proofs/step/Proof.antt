@@ -10,6 +10,7 @@ use Rattle.run.proofs.step.Statement.{statement}
 use Rattle.run.proofs.step.Tie as tie
 use Rattle.run.proofs.step.Reads as reads
 use Rattle.run.proofs.step.Lts as lts
+use Rattle.run.proofs.ahead_at.Reads as ahead-at-reads
 use Rattle.run.proofs.list_at.Reads as list-at-reads
 use Rattle.run.proofs.more.Reads as more-reads
 use Rattle.visit.proofs.load.Reads as load-reads
@@ -17,12 +18,12 @@ use Rattle.visit.proofs.visit.Reads as visit-reads
 use Rattle.visit.proofs.wide.Reads as wide-reads
 
 abbrev Inv-loop : tie.InvT-loop
-Inv-loop code pattern line seen₀ taken₀ lists₀ pending₀ second number places at before long from to end i₀ count₀ steps₀ done₀ goes₀
+Inv-loop code pattern line seen₀ taken₀ lists₀ pending₀ second number places at before long from to end ahead i₀ count₀ steps₀ done₀ goes₀
     seen taken lists pending i count steps done goes =
     Pace code pattern line places at seen₀ taken₀ lists₀ pending₀ second number before seen taken lists pending i count steps done goes
 
 abbrev μ-loop : tie.MeasureT-loop
-μ-loop code pattern line seen₀ taken₀ lists₀ pending₀ second number places at before long from to end i₀ count₀ steps₀ done₀ goes₀
+μ-loop code pattern line seen₀ taken₀ lists₀ pending₀ second number places at before long from to end ahead i₀ count₀ steps₀ done₀ goes₀
     seen taken lists pending i count steps done goes =
     (number - i) + cond goes 1 0
 
@@ -44,45 +45,50 @@ add-end c =
     let the-list-at2 = c .list-at2 in
     let the-pre = c .before .before .before .before .before .before .before .before .before .pre in
     let the-good = c .before .before .before .before .before .before .before .before .before .good in
-    omega (arith, begins-most (not (the-args .second)) (21 * (the-args .places + 1)), the-list-at2 .ensures, the-pre .1, the-good .1 .1 .1 .1 .1 .0 .0)
+    omega (arith, begins-most (not (the-args .second)) (21 * (the-args .places + 1)), the-list-at2 .ensures, the-pre .1 .0, the-good .1 .1 .1 .1 .1 .0 .0)
+
+ahead-at-requires : tie.Need-ahead-at-requires Inv-loop μ-loop
+ahead-at-requires c κs =
+    let the-pre = c .before .before .before .before .before .before .before .before .before .pre in
+    the-pre .1 .1
 
 loop-holds : tie.Need-loop-holds Inv-loop μ-loop
 loop-holds c =
-    let the-args = c .before .before .before .before .before .before .before .before .before .args in
-    let the-pre = c .before .before .before .before .before .before .before .before .before .pre in
+    let the-args = c .before .before .before .before .before .before .before .before .before .before .args in
+    let the-pre = c .before .before .before .before .before .before .before .before .before .before .pre in
     pace-first (the-args .code .now) (the-args .pattern .now) (the-args .line .now) (the-args .places) (the-args .at)
     (the-args .seen .now) (the-args .taken .now) (the-args .lists .now) (the-args .pending .now)
-    (the-args .second) (the-args .number) (the-args .before) (the-pre .0) (the-pre .1)
+    (the-args .second) (the-args .number) (the-args .before) (the-pre .0) (the-pre .1 .0)
 
 mul-b : tie.Need-mul-b Inv-loop μ-loop
 mul-b c =
     let the-loop = c .before .loop in
     let the-loop-test = c .loop-test in
-    let the-list-at = c .before .before .before .list-at in
-    let the-good = c .before .before .before .before .before .before .before .before .before .before .before .good in
+    let the-list-at = c .before .before .before .before .list-at in
+    let the-good = c .before .before .before .before .before .before .before .before .before .before .before .before .good in
     omega (arith, pace-room (the-loop .inv) (the-loop-test .taken) (the-list-at .result) (the-list-at .ensures), the-loop .inv .lists-same, the-good .1 .1 .1 .1 .1 .0 .0)
 
 add-b : tie.Need-add-b Inv-loop μ-loop
 add-b c =
     let the-loop = c .before .loop in
     let the-loop-test = c .loop-test in
-    let the-list-at = c .before .before .before .list-at in
-    let the-good = c .before .before .before .before .before .before .before .before .before .before .before .good in
+    let the-list-at = c .before .before .before .before .list-at in
+    let the-good = c .before .before .before .before .before .before .before .before .before .before .before .before .good in
     omega (arith, pace-room (the-loop .inv) (the-loop-test .taken) (the-list-at .result) (the-list-at .ensures), the-loop .inv .lists-same, the-good .1 .1 .1 .1 .1 .0 .0)
 
 mul-wide : tie.Need-mul-wide Inv-loop μ-loop
 mul-wide c =
     let the-loop = c .before .loop in
     let the-loop-test = c .loop-test in
-    let the-list-at = c .before .before .before .list-at in
-    let the-good = c .before .before .before .before .before .before .before .before .before .before .before .good in
+    let the-list-at = c .before .before .before .before .list-at in
+    let the-good = c .before .before .before .before .before .before .before .before .before .before .before .before .good in
     omega (arith, pace-room (the-loop .inv) (the-loop-test .taken) (the-list-at .result) (the-list-at .ensures), the-loop .inv .lists-same, the-good .1 .1 .1 .1 .1 .0 .0)
 
 slice-read-wide : tie.Need-slice-read-wide Inv-loop μ-loop
 slice-read-wide c =
     let the-loop = c .before .before .loop in
     let the-loop-test = c .before .loop-test in
-    let the-list-at = c .before .before .before .before .list-at in
+    let the-list-at = c .before .before .before .before .before .list-at in
     omega (arith, pace-room (the-loop .inv) (the-loop-test .taken) (the-list-at .result) (the-list-at .ensures))
 
 wide-requires : tie.Need-wide-requires Inv-loop μ-loop
@@ -92,14 +98,14 @@ load-requires : tie.Need-load-requires Inv-loop μ-loop
 load-requires c κs =
     let the-loop = c .before .before .before .before .loop in
     let the-loop-test = c .before .before .before .loop-test in
-    let the-list-at = c .before .before .before .before .before .before .list-at in
+    let the-list-at = c .before .before .before .before .before .before .before .list-at in
     pace-room (the-loop .inv) (the-loop-test .taken) (the-list-at .result) (the-list-at .ensures)
 
 mul-visit : tie.Need-mul-visit Inv-loop μ-loop
 mul-visit c =
     let the-loop = c .before .before .before .before .before .before .before .loop in
-    let the-list-at2 = c .before .before .before .before .before .before .before .before .list-at2 in
-    let the-good = c .before .before .before .before .before .before .before .before .before .before .before .before .before .before .before .before .before .good in
+    let the-list-at2 = c .before .before .before .before .before .before .before .before .before .list-at2 in
+    let the-good = c .before .before .before .before .before .before .before .before .before .before .before .before .before .before .before .before .before .before .good in
     omega (arith, pace-other (the-loop .inv) (the-list-at2 .result) (the-list-at2 .ensures), the-loop .inv .lists-same, the-good .1 .1 .1 .1 .1 .0 .0)
 
 sub-visit : tie.Need-sub-visit Inv-loop μ-loop
@@ -111,16 +117,16 @@ part-visit-start c = search needs
 part-visit-end : tie.Need-part-visit-end Inv-loop μ-loop
 part-visit-end c =
     let the-loop = c .before .before .before .before .before .before .before .loop in
-    let the-list-at2 = c .before .before .before .before .before .before .before .before .list-at2 in
+    let the-list-at2 = c .before .before .before .before .before .before .before .before .before .list-at2 in
     pace-other (the-loop .inv) (the-list-at2 .result) (the-list-at2 .ensures)
 
 visit-requires : tie.Need-visit-requires Inv-loop μ-loop
 visit-requires c κs =
     let the-loop = c .before .before .before .before .before .before .before .before .before .loop in
     let the-loop-test = c .before .before .before .before .before .before .before .before .loop-test in
-    let the-list-at = c .before .before .before .before .before .before .before .before .before .before .before .list-at in
+    let the-list-at = c .before .before .before .before .before .before .before .before .before .before .before .before .list-at in
     let the-wide = c .before .before .before .before .before .before .wide in
-    let the-list-at2 = c .before .before .before .before .before .before .before .before .before .before .list-at2 in
+    let the-list-at2 = c .before .before .before .before .before .before .before .before .before .before .before .list-at2 in
     pace-asked (the-loop .inv) (the-loop-test .taken) (the-list-at .result) (the-list-at .ensures)
     (the-wide .result) (the-wide .ensures) (the-list-at2 .result) (the-list-at2 .ensures)
 
@@ -128,10 +134,8 @@ add-i : tie.Need-add-i Inv-loop μ-loop
 add-i c =
     let the-loop = c .before .before .before .before .before .before .before .before .before .before .before .before .before .before .before .before .before .before .loop in
     let the-loop-test = c .before .before .before .before .before .before .before .before .before .before .before .before .before .before .before .before .before .loop-test in
-    let the-list-at = c .before .before .before .before .before .before .before .before .before .before .before .before .before .before .before .before .before .before
-    .before .before .list-at in
-    let the-good = c .before .before .before .before .before .before .before .before .before .before .before .before .before .before .before .before .before .before
-    .before .before .before .before .before .before .before .before .before .before .good in
+    let the-list-at = c .before .before .before .before .before .before .before .before .before .before .before .before .before .before .before .before .before .before .before .before .before .list-at in
+    let the-good = c .before .before .before .before .before .before .before .before .before .before .before .before .before .before .before .before .before .before .before .before .before .before .before .before .before .before .before .before .before .good in
     omega (arith, pace-room (the-loop .inv) (the-loop-test .taken) (the-list-at .result) (the-list-at .ensures), the-loop .inv .lists-same, the-good .1 .1 .1 .1 .1 .0 .0)
 
 more-requires : tie.Need-more-requires Inv-loop μ-loop
@@ -148,21 +152,21 @@ loop-again : tie.Need-loop-again Inv-loop μ-loop
 loop-again c =
     let the-loop = c .before .before .before .before .before .before .before .before .before .before .before .before .before .before .before .before .before .before .before .loop in
     let the-loop-test = c .before .before .before .before .before .before .before .before .before .before .before .before .before .before .before .before .before .before .loop-test in
-    let the-list-at = c .before .before .before .before .before .before .before .before .before .before .before .before .before .before .before .before .before .before
-    .before .before .before .list-at in
+    let the-list-at = c .before .before .before .before .before .before .before .before .before .before .before .before .before .before .before .before .before .before .before .before .before .before .list-at in
     let the-wide = c .before .before .before .before .before .before .before .before .before .before .before .before .before .before .before .before .wide in
-    let the-list-at2 = c .before .before .before .before .before .before .before .before .before .before .before .before .before .before .before .before .before
-    .before .before .before .list-at2 in
+    let the-list-at2 = c .before .before .before .before .before .before .before .before .before .before .before .before .before .before .before .before .before .before .before .before .before .list-at2 in
     let the-load = c .before .before .before .before .before .before .before .before .before .before .before .before .before .before .load in
     let the-visit = c .before .before .before .before .before .before .before .before .before .visit in
     let the-more = c .more in
     let the-lists = c .before .before .before .before .lists in
+    let the-args = c .before .before .before .before .before .before .before .before .before .before .before .before .before .before .before .before .before .before .before .before .before .before .before .before .before .before .before .before .before .before .args in
+    let the-ahead-at = c .before .before .before .before .before .before .before .before .before .before .before .before .before .before .before .before .before .before .before .before .ahead-at in
     pace-next (the-loop .inv) (the-loop-test .taken) (the-list-at .result) (the-list-at .ensures)
     (the-wide .result) (the-wide .ensures) (the-list-at2 .result) (the-list-at2 .ensures) (the-load .result) (the-load .ensures)
-    (the-visit .last .1 .1 .1 .0) (the-visit .last .1 .1 .1 .1 .0) (the-visit .last .1 .1 .1 .1 .1 .0) (the-visit .last .1 .1 .1 .1 .1 .1 .0)
+    (the-visit .last .1 .1 .0) (the-visit .last .1 .1 .1 .0) (the-visit .last .1 .1 .1 .1 .0) (the-visit .last .1 .1 .1 .1 .1 .0)
     (the-visit .result .count) (the-visit .result .steps) (the-visit .result .done) (the-more .result)
-    (the-visit .kept .1 .1 .1 .0) (the-visit .kept .1 .1 .1 .1 .0) (the-visit .kept .1 .1 .1 .1 .1 .0) (the-visit .kept .1 .1 .1 .1 .1 .1 .0)
-    (the-lists .given .1) (the-visit .ensures) (the-more .ensures)
+    (the-visit .kept .1 .1 .0) (the-visit .kept .1 .1 .1 .0) (the-visit .kept .1 .1 .1 .1 .0) (the-visit .kept .1 .1 .1 .1 .1 .0)
+    (the-lists .given .1) (the-visit .ensures (the-args .line .now) (the-ahead-at .ensures)) (the-more .ensures)
 
 same-length : tie.Need-same-length Inv-loop μ-loop
 same-length c =
@@ -201,6 +205,7 @@ step-spec =
     list-at-requires
     list-at-requires-2
     add-end
+    ahead-at-requires
     loop-holds
     mul-b
     add-b

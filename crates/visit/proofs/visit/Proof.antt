@@ -20,20 +20,20 @@ use Rattle.visit.proofs.wait.Reads as wait-reads
 use Rattle.visit.proofs.wide.Reads as wide-reads
 
 abbrev Inv-loop : tie.InvT-loop
-Inv-loop code pattern line seen₀ taken₀ list₀ pending₀ places at start carried before place₀ floor₀ rows₀ count₀ steps₀ waiting₀ alive₀ goes₀ done₀
+Inv-loop code pattern seen₀ taken₀ list₀ pending₀ places ahead at start carried before place₀ floor₀ rows₀ count₀ steps₀ waiting₀ alive₀ goes₀ done₀
     seen taken list pending place floor rows count steps waiting alive goes done =
-    Turn code pattern line places at seen₀ taken₀ list₀ pending₀ place₀ rows₀ count₀ steps₀ seen taken list pending place floor rows count steps waiting alive goes done
+    Turn code pattern (ahead .there) (ahead .byte) places at seen₀ taken₀ list₀ pending₀ place₀ rows₀ count₀ steps₀ seen taken list pending place floor rows count steps waiting alive goes done
 
 abbrev μ-loop : tie.MeasureT-loop
-μ-loop code pattern line seen₀ taken₀ list₀ pending₀ places at start carried before place₀ floor₀ rows₀ count₀ steps₀ waiting₀ alive₀ goes₀ done₀
+μ-loop code pattern seen₀ taken₀ list₀ pending₀ places ahead at start carried before place₀ floor₀ rows₀ count₀ steps₀ waiting₀ alive₀ goes₀ done₀
     seen taken list pending place floor rows count steps waiting alive goes done =
     turns at seen waiting alive goes
 
 loop-holds : tie.Need-loop-holds Inv-loop μ-loop
 loop-holds c =
-    let the-args = c .before .before .before .before .before .before .before .args in
-    let the-pre = c .before .before .before .before .before .before .before .pre in
-    turn-first (the-args .code .now) (the-args .pattern .now) (the-args .line .now) (the-args .places) (the-args .at)
+    let the-args = c .before .before .before .before .before .before .args in
+    let the-pre = c .before .before .before .before .before .before .pre in
+    turn-first (the-args .code .now) (the-args .pattern .now) (the-args .ahead .there) (the-args .ahead .byte) (the-args .places) (the-args .at)
     (the-args .seen .now) (the-args .taken .now) (the-args .list .now) (the-args .pending .now)
     (the-args .start) (the-args .groups) (the-args .carried) (the-args .before) (search needs) the-pre
 
@@ -87,12 +87,11 @@ add-waiting c =
     let the-if2 = c .before .before .before .before .before .before .if2 in
     let the-numbers-of = c .before .before .before .before .before .numbers-of in
     let the-if3 = c .before .before .before .before .if3 in
-    let the-good = c .before .before .before .before .before .before .before .before .before .before .before .before .before .before .before .before .before .before
-    .before .before .before .good in
+    let the-good = c .before .before .before .before .before .before .before .before .before .before .before .before .before .before .before .before .before .before .before .before .good in
     let asked =
     fork-asked (the-loop .inv) (the-if1 .taken) (the-loop-test .taken) (the-mark .last .0) (the-mark .result) (the-mark .ensures) (the-if2 .taken)
     (the-numbers-of .result .kind) (the-numbers-of .result .next) (the-numbers-of .result .a) (the-numbers-of .result .n) (the-numbers-of .ensures) (the-if3 .taken) in
-    omega (arith, asked .0, the-good .1 .1 .1 .1 .1 .1 .0 .0)
+    omega (arith, asked .0, the-good .1 .1 .1 .1 .1 .0 .0)
 
 loop-less : tie.Need-loop-less Inv-loop μ-loop
 loop-less c =
@@ -120,14 +119,14 @@ loop-again c =
 
 lead-requires : tie.Need-lead-requires Inv-loop μ-loop
 lead-requires c κs =
-    let the-if3 = c .before .before .if3 in
-    let the-if4 = c .before .if4 in
     let the-loop = c .before .before .before .before .before .before .before .before .before .before .before .loop in
     let the-if1 = c .before .before .before .before .before .before .before .before .before .if1 in
     let the-loop-test = c .before .before .before .before .before .before .before .before .before .before .loop-test in
     let the-mark = c .before .before .before .before .before .before .before .mark in
     let the-if2 = c .before .before .before .before .if2 in
     let the-numbers-of = c .before .before .before .numbers-of in
+    let the-if3 = c .before .before .if3 in
+    let the-if4 = c .before .if4 in
     let slots =
     lead-slots (the-loop .inv) (the-if1 .taken) (the-loop-test .taken) (the-mark .last .0) (the-mark .result) (the-mark .ensures) (the-if2 .taken)
     (the-numbers-of .result .kind) (the-numbers-of .result .next) (the-numbers-of .result .a) (the-numbers-of .result .n) (the-numbers-of .ensures) in
@@ -193,8 +192,8 @@ loop-again-3 c =
     let the-settle = c .before .before .before .before .settle in
     turn-settle (the-loop .inv) (the-if1 .taken) (the-loop-test .taken) (the-mark .last .0) (the-mark .result) (the-mark .ensures) (the-if2 .taken)
     (the-numbers-of .result .kind) (the-numbers-of .result .next) (the-numbers-of .result .a) (the-numbers-of .result .n) (the-numbers-of .ensures)
-    (the-settle .last .1 .1 .0) (the-settle .last .1 .1 .1 .0) (the-settle .result .count) (the-settle .result .done)
-    (the-settle .kept .1 .1 .0) (the-settle .kept .1 .1 .1 .0) (the-settle .ensures)
+    (the-settle .last .1 .0) (the-settle .last .1 .1 .0) (the-settle .result .count) (the-settle .result .done)
+    (the-settle .kept .1 .0) (the-settle .kept .1 .1 .0) (the-settle .ensures)
 
 loop-less-4 : tie.Need-loop-less-4 Inv-loop μ-loop
 loop-less-4 c =
@@ -221,15 +220,15 @@ mul-b : tie.Need-mul-b Inv-loop μ-loop
 mul-b c =
     let the-loop = c .before .before .before .loop in
     let the-if5 = c .if5 in
-    let the-good = c .before .before .before .before .before .before .before .before .before .before .before .good in
-    omega (arith, turn-branch (the-loop .inv) (the-if5 .taken), the-good .1 .1 .1 .1 .1 .1 .0 .0)
+    let the-good = c .before .before .before .before .before .before .before .before .before .before .good in
+    omega (arith, turn-branch (the-loop .inv) (the-if5 .taken), the-good .1 .1 .1 .1 .1 .0 .0)
 
 mul-wide : tie.Need-mul-wide Inv-loop μ-loop
 mul-wide c =
     let the-loop = c .before .before .before .loop in
     let the-if5 = c .if5 in
-    let the-good = c .before .before .before .before .before .before .before .before .before .before .before .good in
-    omega (arith, turn-branch (the-loop .inv) (the-if5 .taken), the-good .1 .1 .1 .1 .1 .1 .0 .0)
+    let the-good = c .before .before .before .before .before .before .before .before .before .before .good in
+    omega (arith, turn-branch (the-loop .inv) (the-if5 .taken), the-good .1 .1 .1 .1 .1 .0 .0)
 
 slice-read-wide : tie.Need-slice-read-wide Inv-loop μ-loop
 slice-read-wide c =
@@ -244,15 +243,15 @@ add-wide : tie.Need-add-wide Inv-loop μ-loop
 add-wide c =
     let the-loop = c .before .before .before .before .before .loop in
     let the-if5 = c .before .before .if5 in
-    let the-good = c .before .before .before .before .before .before .before .before .before .before .before .before .before .good in
-    omega (arith, turn-branch (the-loop .inv) (the-if5 .taken), the-good .1 .1 .1 .1 .1 .1 .0 .0)
+    let the-good = c .before .before .before .before .before .before .before .before .before .before .before .before .good in
+    omega (arith, turn-branch (the-loop .inv) (the-if5 .taken), the-good .1 .1 .1 .1 .1 .0 .0)
 
 mul-wide-2 : tie.Need-mul-wide-2 Inv-loop μ-loop
 mul-wide-2 c =
     let the-loop = c .before .before .before .before .before .loop in
     let the-if5 = c .before .before .if5 in
-    let the-good = c .before .before .before .before .before .before .before .before .before .before .before .before .before .good in
-    omega (arith, turn-branch (the-loop .inv) (the-if5 .taken), the-good .1 .1 .1 .1 .1 .1 .0 .0)
+    let the-good = c .before .before .before .before .before .before .before .before .before .before .before .before .good in
+    omega (arith, turn-branch (the-loop .inv) (the-if5 .taken), the-good .1 .1 .1 .1 .1 .0 .0)
 
 slice-read-wide-2 : tie.Need-slice-read-wide-2 Inv-loop μ-loop
 slice-read-wide-2 c =
@@ -267,8 +266,8 @@ add-load : tie.Need-add-load Inv-loop μ-loop
 add-load c =
     let the-loop = c .before .before .before .before .before .before .before .before .loop in
     let the-if5 = c .before .before .before .before .before .if5 in
-    let the-good = c .before .before .before .before .before .before .before .before .before .before .before .before .before .before .before .before .good in
-    omega (arith, turn-branch (the-loop .inv) (the-if5 .taken), the-good .1 .1 .1 .1 .1 .1 .0 .0)
+    let the-good = c .before .before .before .before .before .before .before .before .before .before .before .before .before .before .before .good in
+    omega (arith, turn-branch (the-loop .inv) (the-if5 .taken), the-good .1 .1 .1 .1 .1 .0 .0)
 
 load-requires : tie.Need-load-requires Inv-loop μ-loop
 load-requires c κs =
