@@ -1,5 +1,6 @@
 -- The laws that the answers cite, by topic.
 pub mod Ranges
+pub mod Clearing
 pub mod Stores
 pub mod PlaceKinds
 pub mod Stamps

@@ -1,4 +1,4 @@
--- A set's ranges read off the pattern one by one, and rows cleared one by one: one turn of each loop is one clause of the definition.
+-- A set's ranges read off the pattern one by one: one turn of the loop is one clause of the definition.
 use Prim.Native.Nat.{ℕ, suc, _+_, _-_, _*_, _≤_, _<_}
 use mathlib.Core.Path.{_≡_, refl, sym, ap, _∙_}
 use mathlib.Core.Bool.{Bool, true, false, _&&_, _||_}
@@ -7,10 +7,9 @@ use native.Mathlib.Omega.{arith}
 use native.Mathlib.Numerals.{add-one}
 use borrow.Author.Tests.{le-leb, lt-leb, le-ltb}
 use lib.Dec.{leb}
-use lib.ListN.{length, getD, take, drop, set}
+use lib.ListN.{length, getD, take, drop}
 use lib.Seq.{drop-cons}
 use Rattle.paper.specs.Pattern.{Range}
-use Rattle.paper.specs.Rows.{Rows, clear}
 use Rattle.paper.specs.Reading.{inSet, takes}
 use Rattle.paper.specs.Check.{rangesOf, part}
 use Rattle.visit.specs.Shows.{AheadIn}
@@ -78,15 +77,3 @@ takes-ahead ranges line p there byte along e =
 -- and nothing where there is none
 pub takes-none : (ranges : List Range) (line : List ℕ) (p : ℕ) → length line ≤ p → takes ranges line p ≡ false
 takes-none ranges line p h = ap (λ (b : Bool). b && inSet ranges (getD line p 0)) (le-ltb p (length line) h)
-
--- one row is cleared, and then the others
-pub clear-more : (k many : ℕ) (rows : Rows) → 0 < many
-    → clear k many rows ≡ clear (k + 1) (many - 1) (set (set rows (2 * k) 65535) (2 * k + 1) 65535)
-clear-more k many rows h =
-    let e : many ≡ suc (many - 1) = omega arith in
-    ap (λ (n : ℕ). clear k n rows) e ∙ ap (λ (j : ℕ). clear j (many - 1) (set (set rows (2 * k) 65535) (2 * k + 1) 65535)) (sym (add-one k))
-
-pub clear-none : (k many : ℕ) (rows : Rows) → many ≤ 0 → clear k many rows ≡ rows
-clear-none k many rows h =
-    let e : many ≡ 0 = omega arith in
-    ap (λ (n : ℕ). clear k n rows) e

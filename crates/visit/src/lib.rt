@@ -137,24 +137,80 @@ fn eats(pattern: &[u8], ahead: Ahead, kind: usize, a: usize, n: usize) -> bool
     false
 }
 
-// Makes as many rows from the first on absent.
+// Makes a row absent.
+fn clear_one(rows: &mut [u16; Spans::NUMBERS], k: usize)
+    requires { ⌜ k + 1 ≤ rowCount ⌝ }
+    ensures { λ _. ⌜ now (rows .exit) ≡ clear k 1 (now (rows .entry)) ⌝ }
+{
+    rows[2 * k] = Spans::ABSENT;
+    rows[2 * k + 1] = Spans::ABSENT;
+}
+
+// Makes a row and the next absent.
+fn clear_two(rows: &mut [u16; Spans::NUMBERS], k: usize)
+    requires { ⌜ k + 2 ≤ rowCount ⌝ }
+    ensures { λ _. ⌜ now (rows .exit) ≡ clear k 2 (now (rows .entry)) ⌝ }
+{
+    clear_one(rows, k);
+    clear_one(rows, k + 1);
+}
+
+// Makes four rows from one on absent.
+fn clear_four(rows: &mut [u16; Spans::NUMBERS], k: usize)
+    requires { ⌜ k + 4 ≤ rowCount ⌝ }
+    ensures { λ _. ⌜ now (rows .exit) ≡ clear k 4 (now (rows .entry)) ⌝ }
+{
+    clear_two(rows, k);
+    clear_two(rows, k + 2);
+}
+
+// Makes a row absent, or none.
+fn clear_under_two(rows: &mut [u16; Spans::NUMBERS], k: usize, n: usize)
+    requires { ⌜ (n < 2) × (k + n ≤ rowCount) ⌝ }
+    ensures { λ _. ⌜ now (rows .exit) ≡ clear k n (now (rows .entry)) ⌝ }
+{
+    if n == 1 {
+        clear_one(rows, k);
+    }
+}
+
+// Makes up to three rows from one on absent.
+fn clear_under_four(rows: &mut [u16; Spans::NUMBERS], k: usize, n: usize)
+    requires { ⌜ (n < 4) × (k + n ≤ rowCount) ⌝ }
+    ensures { λ _. ⌜ now (rows .exit) ≡ clear k n (now (rows .entry)) ⌝ }
+{
+    if n < 2 {
+        clear_under_two(rows, k, n);
+    } else {
+        clear_two(rows, k);
+        clear_under_two(rows, k + 2, n - 2);
+    }
+}
+
+// Makes up to seven rows from one on absent.
+fn clear_under_eight(rows: &mut [u16; Spans::NUMBERS], k: usize, n: usize)
+    requires { ⌜ (n < 8) × (k + n ≤ rowCount) ⌝ }
+    ensures { λ _. ⌜ now (rows .exit) ≡ clear k n (now (rows .entry)) ⌝ }
+{
+    if n < 4 {
+        clear_under_four(rows, k, n);
+    } else {
+        clear_four(rows, k);
+        clear_under_four(rows, k + 4, n - 4);
+    }
+}
+
+// Makes as many rows from the first on absent. Without a loop: a loop over the rows becomes a call, which the machine's steps pay for.
 fn clear_rows(rows: &mut [u16; Spans::NUMBERS], first: usize, count: usize)
     requires { ⌜ first + count ≤ rowCount ⌝ }
     ensures { λ _. ⌜ now (rows .exit) ≡ clear first count (now (rows .entry)) ⌝ }
 {
-    if count == 1 {
-        // The usual case, by itself: a loop costs more.
-        rows[2 * first] = Spans::ABSENT;
-        rows[2 * first + 1] = Spans::ABSENT;
-        return;
-    }
-    let mut k = first;
-    let mut many = count;
-    while 0 < many {
-        rows[2 * k] = Spans::ABSENT;
-        rows[2 * k + 1] = Spans::ABSENT;
-        k = k + 1;
-        many = many - 1;
+    if count < 8 {
+        clear_under_eight(rows, first, count);
+    } else {
+        clear_four(rows, first);
+        clear_four(rows, first + 4);
+        clear_under_four(rows, first + 8, count - 8);
     }
 }
 
