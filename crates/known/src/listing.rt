@@ -75,6 +75,22 @@ fn set(out: &mut [u8], at: usize, pattern: &[u8], offset: usize, count: usize) -
     }
 }
 
+// A byte that stands in a place's number.
+fn byte(x: u16) -> u8 {
+    (x % 256) as u8
+}
+
+// A set of one range, whose least and greatest byte are the place's numbers. A search has two places that take every byte.
+fn single(out: &mut [u8], at: usize, low: u16, high: u16) -> usize
+    ensures { λ r. ⌜ r ≤ length (now (out .entry)) ⌝ }
+{
+    if low == 0 && high == 255 {
+        return printer::bytes(out, at, b"any byte", false);
+    }
+    let pair = [byte(low), byte(high)];
+    ranges(out, at, &pair)
+}
+
 // A begin of a pass, and the groups that it makes absent.
 fn begin(out: &mut [u8], at: usize, words: &[u8], first: u16, count: u16) -> usize
     ensures { λ r. ⌜ r ≤ length (now (out .entry)) ⌝ }
@@ -126,7 +142,7 @@ fn action(out: &mut [u8], at: usize, pattern: &[u8], kind: u16, a: u16, many: u1
     if kind == PlaceKind::SET {
         return set(out, at, pattern, wide(a), wide(many));
     }
-    printer::bytes(out, at, b"any byte", false)
+    single(out, at, a, many)
 }
 
 // What a place does and where it leads.
