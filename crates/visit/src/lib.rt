@@ -200,12 +200,14 @@ fn clear_under_eight(rows: &mut [u16; Spans::NUMBERS], k: usize, n: usize)
     }
 }
 
-// Makes as many rows from the first on absent. Without a loop: a loop over the rows becomes a call, which the machine's steps pay for.
+// Makes as many rows from the first on absent, the usual none or one first. A loop over the rows would become a call, which the machine's steps pay for.
 fn clear_rows(rows: &mut [u16; Spans::NUMBERS], first: usize, count: usize)
     requires { ⌜ first + count ≤ rowCount ⌝ }
     ensures { λ _. ⌜ now (rows .exit) ≡ clear first count (now (rows .entry)) ⌝ }
 {
-    if count < 8 {
+    if count < 2 {
+        clear_under_two(rows, first, count);
+    } else if count < 8 {
         clear_under_eight(rows, first, count);
     } else {
         clear_four(rows, first);

@@ -1,4 +1,4 @@
--- Twice four rows, and then those that are left.
+-- None or one, the usual case, first; from eight on twice four rows, and then those that are left.
 use Prim.Native.Nat.{_-_}
 use native.Mathlib.Omega.{arith}
 use Rattle.visit.proofs.Clearing.{clear-then}
@@ -10,6 +10,10 @@ use Rattle.visit.proofs.clear_rows.Lts as lts
 use Rattle.visit.proofs.clear_four.Reads as clear-four-reads
 use Rattle.visit.proofs.clear_under_eight.Reads as clear-under-eight-reads
 use Rattle.visit.proofs.clear_under_four.Reads as clear-under-four-reads
+use Rattle.visit.proofs.clear_under_two.Reads as clear-under-two-reads
+
+clear-under-two-requires : tie.Need-clear-under-two-requires
+clear-under-two-requires c κs = search needs
 
 clear-under-eight-requires : tie.Need-clear-under-eight-requires
 clear-under-eight-requires c κs = search needs
@@ -33,8 +37,11 @@ returns : tie.Need-returns
 returns c = search needs
 
 returns-2 : tie.Need-returns-2
-returns-2 c =
-    let the-args = c .before .before .before .before .before .before .before .args in
+returns-2 c = search needs
+
+returns-3 : tie.Need-returns-3
+returns-3 c =
+    let the-args = c .before .before .before .before .before .before .before .before .args in
     let the-clear-four = c .before .before .before .before .clear-four in
     let the-clear-four2 = c .before .before .clear-four2 in
     let the-clear-under-four = c .clear-under-four in
@@ -45,6 +52,7 @@ pub clear-rows-spec : {M : Type 1} → statement M
 clear-rows-spec =
     tie.close
     (tie.spec
+    clear-under-two-requires
     clear-under-eight-requires
     clear-four-requires
     add-clear-four
@@ -52,4 +60,5 @@ clear-rows-spec =
     add-clear-under-four
     clear-under-four-requires
     returns
-    returns-2)
+    returns-2
+    returns-3)
