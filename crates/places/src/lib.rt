@@ -129,7 +129,7 @@ fn count(pattern: &[u8], at: usize, stop: usize) -> Sums
         let kind = number_at(pattern, from + 2);
         let start = from + 4;
         let end = start + number_at(pattern, from);
-        let inside = count(pattern, inside_start(kind, start, end), end);
+        let inside = counted(pattern, inside_start(kind, start, end), end);
         places = capped(places + own_places(pattern, kind, start, inside.places, inside.records));
         groups += own_groups(kind, inside.groups);
         records += 1;
@@ -139,6 +139,21 @@ fn count(pattern: &[u8], at: usize, stop: usize) -> Sums
         places,
         groups,
         records,
+    }
+}
+
+// The same, without a call where there is none: most records have no records inside.
+fn counted(pattern: &[u8], at: usize, stop: usize) -> Sums
+    requires { ⌜ Counting (now pattern) at stop ⌝ }
+    ensures { λ r. ⌜ Counted (now (pattern .entry)) at stop (r .places) (r .groups) (r .records) ⌝ }
+{
+    if at < stop {
+        return count(pattern, at, stop);
+    }
+    Sums {
+        places: 0,
+        groups: 0,
+        records: 0,
     }
 }
 

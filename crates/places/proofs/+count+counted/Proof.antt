@@ -1,29 +1,41 @@
--- `count` adds up records in a row, and calls itself on what stands inside each: the bytes between its two offsets fall.
+-- `count` adds up records in a row, and has counted what stands inside each: the bytes between the two offsets fall.
 use borrow.Author.Needs.{needs}
-use Prim.Native.Nat.{ℕ, _+_, _-_, _<_}
+use Prim.Native.Nat.{ℕ, _+_, _-_, _*_, _<_}
 use native.Mathlib.Omega.{arith}
 use Rattle.places.proofs.Adding.{Adding, adding-none, adding-turn, adding-all, first, inside-after, read-inside, read-own, read-groups}
 use borrow.Fn.Kinds.{In}
 use borrow.Fn.PlainCycle.{Measures, is, falls, and}
 use Rattle.places.proofs.count.Reads as count
 use Rattle.places.proofs.count.Kinds as count-kinds
-use Rattle.places.proofs.+count.Lts-count as count-lts
+use Rattle.places.proofs.+count+counted.Lts-count as count-lts
+use Rattle.places.proofs.counted.Reads as counted
+use Rattle.places.proofs.counted.Kinds as counted-kinds
+use Rattle.places.proofs.+count+counted.Lts-counted as counted-lts
 use Rattle.places.proofs.capped.Reads as capped-reads
 use Rattle.places.proofs.inside_start.Reads as inside-start-reads
 use Rattle.places.proofs.own_groups.Reads as own-groups-reads
 use Rattle.places.proofs.own_places.Reads as own-places-reads
 use Rattle.records.proofs.number_at.Reads as number-at-reads
-use Rattle.places.proofs.+count.{statement}
-use Rattle.places.proofs.+count.Tie.{close}
+use Rattle.places.proofs.+count+counted.{statement}
+use Rattle.places.proofs.+count+counted.Tie.{close}
 
 abbrev μ-count : Measures 1 count-kinds.ps ℕ
-μ-count κs a = a .1 .1 .0 - a .1 .0
+μ-count κs a = 2 * (a .1 .1 .0 - a .1 .0)
+
+abbrev μ-counted : Measures 1 counted-kinds.ps ℕ
+μ-counted κs a = 2 * (a .1 .1 .0 - a .1 .0) + 1
 
 abbrev count-at : ℕ → In 1 count-kinds.ps
 count-at t = and 1 count-kinds.ps (is 1 count-kinds.ps μ-count t) count.Pre
 
 abbrev count-below : ℕ → In 1 count-kinds.ps
 count-below t = and 1 count-kinds.ps (falls 1 count-kinds.ps _<_ μ-count t) count.Pre
+
+abbrev counted-at : ℕ → In 1 counted-kinds.ps
+counted-at t = and 1 counted-kinds.ps (is 1 counted-kinds.ps μ-counted t) counted.Pre
+
+abbrev counted-below : ℕ → In 1 counted-kinds.ps
+counted-below t = and 1 counted-kinds.ps (falls 1 counted-kinds.ps _<_ μ-counted t) counted.Pre
 
 abbrev count-Inv-loop : count-lts.InvT-loop
 count-Inv-loop pattern at stop from₀ places₀ groups₀ records₀ from places groups records = Adding pattern at stop from places groups records
@@ -32,7 +44,7 @@ abbrev count-μ-loop : count-lts.MeasureT-loop
 count-μ-loop pattern at stop from₀ places₀ groups₀ records₀ from places groups records = stop - from
 
 abbrev count-calls : ℕ → count-lts.Claims
-count-calls t = (number-at-reads.Asked, number-at-reads.Learnt, inside-start-reads.Asked, inside-start-reads.Learnt, count-below t, count.Post, own-places-reads.Asked, own-places-reads.Learnt, capped-reads.Asked, capped-reads.Learnt, own-groups-reads.Asked, own-groups-reads.Learnt)
+count-calls t = (number-at-reads.Asked, number-at-reads.Learnt, inside-start-reads.Asked, inside-start-reads.Learnt, counted-below t, counted.Post, own-places-reads.Asked, own-places-reads.Learnt, capped-reads.Asked, capped-reads.Learnt, own-groups-reads.Asked, own-groups-reads.Learnt)
 
 count-loop-holds : (t : ℕ) → count-lts.Need-loop-holds (count-calls t) (count-at t) count.Post count-Inv-loop count-μ-loop
 count-loop-holds t c =
@@ -81,8 +93,8 @@ count-inside-start-requires t c κs =
     let the-loop-test = c .before .before .loop-test in
     let f = first (the-pre .1) (the-loop .inv) (the-loop-test .taken) in omega arith
 
-count-count-requires : (t : ℕ) → count-lts.Need-count-requires (count-calls t) (count-at t) count.Post count-Inv-loop count-μ-loop
-count-count-requires t c κs =
+count-counted-requires : (t : ℕ) → count-lts.Need-counted-requires (count-calls t) (count-at t) count.Post count-Inv-loop count-μ-loop
+count-counted-requires t c κs =
     let the-pre = c .before .before .before .before .before .before .pre in
     let the-loop = c .before .before .before .before .loop in
     let the-loop-test = c .before .before .before .loop-test in
@@ -99,8 +111,8 @@ count-own-places-requires t c κs =
     let the-number-at = c .before .before .before .number-at in
     let the-number-at2 = c .before .before .number-at2 in
     let the-inside-start = c .before .inside-start in
-    let the-count = c .count in
-    let f = first (the-pre .1) (the-loop .inv) (the-loop-test .taken) in read-own (the-loop .from) (the-number-at .ensures .0) (the-number-at2 .ensures .0) (the-inside-start .ensures) f (the-count .ensures)
+    let the-counted = c .counted in
+    let f = first (the-pre .1) (the-loop .inv) (the-loop-test .taken) in read-own (the-loop .from) (the-number-at .ensures .0) (the-number-at2 .ensures .0) (the-inside-start .ensures) f (the-counted .ensures)
 
 count-add-capped : (t : ℕ) → count-lts.Need-add-capped (count-calls t) (count-at t) count.Post count-Inv-loop count-μ-loop
 count-add-capped t c =
@@ -119,8 +131,8 @@ count-own-groups-requires t c κs =
     let the-number-at = c .before .before .before .before .before .number-at in
     let the-number-at2 = c .before .before .before .before .number-at2 in
     let the-inside-start = c .before .before .before .inside-start in
-    let the-count = c .before .before .count in
-    let f = first (the-pre .1) (the-loop .inv) (the-loop-test .taken) in read-groups (the-loop .from) (the-number-at .ensures .0) (the-number-at2 .ensures .0) (the-inside-start .ensures) f (the-count .ensures)
+    let the-counted = c .before .before .counted in
+    let f = first (the-pre .1) (the-loop .inv) (the-loop-test .taken) in read-groups (the-loop .from) (the-number-at .ensures .0) (the-number-at2 .ensures .0) (the-inside-start .ensures) f (the-counted .ensures)
 
 count-add-groups : (t : ℕ) → count-lts.Need-add-groups (count-calls t) (count-at t) count.Post count-Inv-loop count-μ-loop
 count-add-groups t c =
@@ -151,11 +163,11 @@ count-loop-again t c =
     let the-inside-start = c .before .before .before .before .inside-start in
     let the-pre = c .before .before .before .before .before .before .before .before .before .before .pre in
     let the-loop-test = c .before .before .before .before .before .before .before .loop-test in
-    let the-count = c .before .before .before .count in
+    let the-counted = c .before .before .before .counted in
     let the-own-places = c .before .before .own-places in
     let the-capped = c .before .capped in
     let the-own-groups = c .own-groups in
-    adding-turn (the-loop .from) (the-number-at .ensures .0) (the-number-at2 .ensures .0) (the-inside-start .ensures) (the-pre .1) (the-loop .inv) (the-loop-test .taken) (the-count .ensures) (the-own-places .ensures .0) (the-capped .ensures) (the-own-groups .ensures .0)
+    adding-turn (the-loop .from) (the-number-at .ensures .0) (the-number-at2 .ensures .0) (the-inside-start .ensures) (the-pre .1) (the-loop .inv) (the-loop-test .taken) (the-counted .ensures) (the-own-places .ensures .0) (the-capped .ensures) (the-own-groups .ensures .0)
 
 count-returns : (t : ℕ) → count-lts.Need-returns (count-calls t) (count-at t) count.Post count-Inv-loop count-μ-loop
 count-returns t c =
@@ -163,8 +175,21 @@ count-returns t c =
     let the-loop-test = c .loop-test in
     adding-all (the-loop .inv) (the-loop-test .left)
 
-pub +count-spec : {M : Type 1} → statement M
-+count-spec = close μ-count λ t. count-lts.spec (count-calls t)
+counted-count-requires : (t : ℕ) → counted-lts.Need-count-requires (count-below t, count.Post) (counted-at t) counted.Post
+counted-count-requires t c κs =
+    let the-pre = c .before .before .pre in
+    (omega (arith, the-pre .0), the-pre .1)
+
+counted-returns : (t : ℕ) → counted-lts.Need-returns (count-below t, count.Post) (counted-at t) counted.Post
+counted-returns t c = c .count .ensures
+
+counted-returns-2 : (t : ℕ) → counted-lts.Need-returns-2 (count-below t, count.Post) (counted-at t) counted.Post
+counted-returns-2 t c =
+    let the-pre = c .before .before .pre in
+    adding-all (adding-none (the-pre .1)) (c .if1 .left)
+
+pub +count+counted-spec : {M : Type 1} → statement M
++count+counted-spec = close μ-count μ-counted (λ t. count-lts.spec (count-calls t)
     (count-at t)
     count.Post
     count-Inv-loop
@@ -176,7 +201,7 @@ pub +count-spec : {M : Type 1} → statement M
     (count-number-at-requires-2 t)
     (count-add-end t)
     (count-inside-start-requires t)
-    (count-count-requires t)
+    (count-counted-requires t)
     (count-own-places-requires t)
     (count-add-capped t)
     (count-capped-requires t)
@@ -185,4 +210,11 @@ pub +count-spec : {M : Type 1} → statement M
     (count-add-records t)
     (count-loop-less t)
     (count-loop-again t)
-    (count-returns t)
+    (count-returns t))
+    λ t. counted-lts.spec
+    (count-below t, count.Post)
+    (counted-at t)
+    counted.Post
+    (counted-count-requires t)
+    (counted-returns t)
+    (counted-returns-2 t)
