@@ -10,7 +10,7 @@ use Rattle.paper.specs.Machine.{Core, size, passFork, ending}
 use Rattle.paper.specs.Tables.{placeOf}
 use Rattle.pattern.specs.Walk.{passPlaces}
 use Rattle.places.specs.Laid.{Holds, Kept, Lays, entryOf}
-use Rattle.places.specs.Asked.{Fitting, Put, Forked, passCore, innerStart, Model, inPlace, ahead, Moving, Copied, Begun, BegunLaid, Repeating, PassesLaid}
+use Rattle.places.specs.Asked.{Fitting, Put, Forked, passCore, innerStart, Model, inPlace, ahead, Moving, Copied, Begun, BegunLaid, Repeating, PassesLaid, PassesLeft}
 use Rattle.places.proofs.Laying.{holds-kept, plain-holds, lays-kept, lays-behind, kept-none, kept-both}
 use Rattle.places.proofs.Sizes.{pass-size}
 use Rattle.places.proofs.Entering.{entry-small, end-small, entry-some, entry-same, passes-some, passes-none, places-must, places-may, inner-must, inner-may, core-must, core-none, core-star, core-maybe, must-lays, maybe-lays, star-lays}
@@ -239,3 +239,51 @@ none-laid {p = p} {first = first} {g = g} {least = least} {may = may} {mode = mo
       kept = kept-none base (base + passPlaces least may p) t;
       laid = λ bs e ep given. subst (λ (c : Core). Lays t bs c base next) (sym (core-none (modeOf mode) first g e least endless may none nones)) tt;
     }
+
+-- all passes are left
+pub left-all : {model p first g least may mode base next : ℕ} {endless : Bool} (t : List ℕ) → Repeating model p first g least may endless base next
+    → PassesLeft model p first g least may endless mode base next t least may base t
+left-all t m = record { asked = m; same-length = refl; all = λ after r. r }
+
+-- a pass that must be made is laid
+pub left-must : {model p first g least may mode base next must left from v : ℕ} {endless : Bool} {t0 t t1 : List ℕ}
+    → PassesLeft model p first g least may endless mode base next t0 must left from t → (must ≡ 0 → ⊥)
+    → v ≡ entryOf (must - 1 + left) (from + 1 + p) next → BegunLaid model p 3 first g from v t t1
+    → PassesLeft model p first g least may endless mode base next t0 (must - 1) left (from + 1 + p) t1
+left-must i some ev h =
+    record {
+      asked = must-rest (i .asked) some;
+      same-length = h .kept .same-length ∙ i .same-length;
+      all = λ after r. i .all after (must-laid (i .asked) some ev h r);
+    }
+
+-- an optional pass is laid
+pub left-may : {model p first g least may mode base next left from v : ℕ} {endless : Bool} {t0 t t1 t2 t3 : List ℕ}
+    → PassesLeft model p first g least may endless mode base next t0 0 left from t → (left ≡ 0 → ⊥)
+    → v ≡ cond endless from (entryOf (left - 1) (from + 1 + 1 + p + 1) next) → Forked t from mode (from + 1) next t1
+    → BegunLaid model p 4 first g (from + 1) (from + 1 + 1 + p) t1 t2 → Put t2 (from + 1 + 1 + p) 5 v 0 0 t3
+    → PassesLeft model p first g least may endless mode base next t0 0 (left - 1) (from + 1 + 1 + p + 1) t3
+left-may i some ev f h end =
+    record {
+      asked = may-rest (i .asked) refl some;
+      same-length = end .kept .same-length ∙ h .kept .same-length ∙ f .kept .same-length ∙ i .same-length;
+      all = λ after r. i .all after (may-laid (i .asked) refl some f h end r ev);
+    }
+
+-- its fork fits
+pub left-fork : {model p first g least may mode base next left from : ℕ} {endless : Bool} {t0 t : List ℕ}
+    → PassesLeft model p first g least may endless mode base next t0 0 left from t → (left ≡ 0 → ⊥) → 2040 ≤ length t0 → Fitting t from (from + 1) next 0
+left-fork {p = p} {left = left} i some room =
+    let total = places-may 0 left p refl some in
+    record {
+      room = omega (arith, i .asked .room, i .same-length);
+      next-fits = omega (arith, i .asked .room);
+      a-fits = omega (arith, i .asked .follows);
+      n-fits = omega arith;
+    }
+
+-- none is left
+pub left-none : {model p first g least may mode base next left from : ℕ} {endless : Bool} {t0 t : List ℕ}
+    → PassesLeft model p first g least may endless mode base next t0 0 left from t → left ≡ 0
+    → PassesLaid model p first g least may endless mode base next t0 t
+left-none {endless = endless} {t = t} i none = i .all t (none-laid endless refl none)

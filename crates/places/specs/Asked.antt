@@ -246,6 +246,13 @@ pub record PassesLaid (model p first g least may : ℕ) (endless : Bool) (mode b
   pub laid : (bs : List ℕ) (e : Core) → p ≡ size e → ((least + may ≡ 0 → ⊥) → Lays before bs e model (model + p))
       → Lays after bs (passCore least endless may (modeOf mode) first g e) base next
 
+-- `must_passes`: so many passes are left to be laid from an index on, and whoever lays them has laid them all
+pub record PassesLeft (model p first g least may : ℕ) (endless : Bool) (mode base next : ℕ) (before : List ℕ) (must left from : ℕ) (now : List ℕ) : Type 0 where
+  pub asked : Repeating model p first g must left endless from next
+  pub same-length : length now ≡ length before
+  pub all : (after : List ℕ) → PassesLaid model p first g must left endless mode from next now after
+      → PassesLaid model p first g least may endless mode base next before after
+
 -- `repeated`: a repeat's three numbers, and what it repeats
 pub record Repeat (bs : List ℕ) (start stop base next first : ℕ) : Type 0 where
   pub least : ℕ

@@ -13,7 +13,7 @@ ghost use Rattle.paper.specs.Pattern.{repeatPlaces};
 ghost use Rattle.paper.specs.Check.{bodyEnd, upperOf};
 ghost use Rattle.pattern.specs.Walk.{optionalPasses};
 ghost use Rattle.places.specs.Laid.{entryOf};
-ghost use Rattle.places.specs.Asked.{Fitting, Put, Forked, Capped, insideStart, CountsRight, ownPlaces, OwnPlaces, ownGroups, Counting, Counted, Ranged, RangedLaid, One, OneLaid, Head, HeadLaid, Several, SeveralLaid, innerStart, movedTo, movedOther, Moving, PutMoved, Copied, Begun, BegunLaid, Repeating, PassesLaid, Repeat, RepeatLaid, Star, StarLaid, tableRoom, mostPlaces, mostNumber, mostCounted, mostOwn};
+ghost use Rattle.places.specs.Asked.{Fitting, Put, Forked, Capped, insideStart, CountsRight, ownPlaces, OwnPlaces, ownGroups, Counting, Counted, Ranged, RangedLaid, One, OneLaid, Head, HeadLaid, Several, SeveralLaid, innerStart, movedTo, movedOther, Moving, PutMoved, Copied, Begun, BegunLaid, Repeating, PassesLaid, PassesLeft, Repeat, RepeatLaid, Star, StarLaid, tableRoom, mostPlaces, mostNumber, mostCounted, mostOwn};
 ghost use Rattle.places.specs.Built.{Accepted, BuiltMatch, BuiltSearch};
 
 // Writes a place's four numbers.
@@ -309,26 +309,59 @@ fn begun(table: &mut [u16], pass: Pass, kind: u16, base: usize, next: usize)
     copied(table, shift);
 }
 
-// The passes of a repeat: those that must be made, then the optional ones; without an upper end there is one of these, whose end leads back.
+// The passes that must be made, one after another; answers where the optional ones start.
+fn must_passes(
+    table: &mut [u16],
+    pass: Pass,
+    must: usize,
+    may: usize,
+    base: usize,
+    next: usize,
+) -> usize
+    requires { ⌜ Repeating (pass .model) (pass .places) (pass .first) (pass .groups) must may (pass .endless) base next ⌝ }
+    requires { ⌜ tableRoom ≤ length (now table) ⌝ }
+    ensures { λ r. ⌜ PassesLeft (pass .model) (pass .places) (pass .first) (pass .groups) must may (pass .endless) (pass .mode) base next (now (table .entry)) 0 may r (now (table .exit)) ⌝ }
+{
+    let mut left = must;
+    let mut from = base;
+    while left != 0 {
+        let after = from + 1 + pass.places;
+        let out = entered(left - 1 + may, after, next);
+        begun(table, pass, PlaceKind::BEGIN, from, out);
+        from = after;
+        left -= 1;
+    }
+    from
+}
+
+// The optional passes, one after another; without an upper end there is one, whose end leads back.
+fn may_passes(table: &mut [u16], pass: Pass, may: usize, base: usize, next: usize)
+    requires { ⌜ Repeating (pass .model) (pass .places) (pass .first) (pass .groups) 0 may (pass .endless) base next ⌝ }
+    requires { ⌜ tableRoom ≤ length (now table) ⌝ }
+    ensures { λ _. ⌜ PassesLaid (pass .model) (pass .places) (pass .first) (pass .groups) 0 may (pass .endless) (pass .mode) base next (now (table .entry)) (now (table .exit)) ⌝ }
+{
+    let mut left = may;
+    let mut from = base;
+    while left != 0 {
+        let begin = from + 1;
+        let end = begin + 1 + pass.places;
+        let out = pass_end(pass.endless, left, from, end + 1, next);
+        pass_fork(table, from, pass.mode, begin, next);
+        begun(table, pass, PlaceKind::BEGIN_OPTIONAL, begin, end);
+        put(table, end, PlaceKind::END, out, 0, 0);
+        from = end + 1;
+        left -= 1;
+    }
+}
+
+// The passes of a repeat: those that must be made, then the optional ones.
 fn passes(table: &mut [u16], pass: Pass, must: usize, may: usize, base: usize, next: usize)
     requires { ⌜ Repeating (pass .model) (pass .places) (pass .first) (pass .groups) must may (pass .endless) base next ⌝ }
     requires { ⌜ tableRoom ≤ length (now table) ⌝ }
     ensures { λ _. ⌜ PassesLaid (pass .model) (pass .places) (pass .first) (pass .groups) must may (pass .endless) (pass .mode) base next (now (table .entry)) (now (table .exit)) ⌝ }
 {
-    if must != 0 {
-        let after = base + 1 + pass.places;
-        let out = entered(must - 1 + may, after, next);
-        begun(table, pass, PlaceKind::BEGIN, base, out);
-        passes(table, pass, must - 1, may, after, next);
-    } else if may != 0 {
-        let begin = base + 1;
-        let end = begin + 1 + pass.places;
-        let out = pass_end(pass.endless, may, base, end + 1, next);
-        pass_fork(table, base, pass.mode, begin, next);
-        begun(table, pass, PlaceKind::BEGIN_OPTIONAL, begin, end);
-        put(table, end, PlaceKind::END, out, 0, 0);
-        passes(table, pass, 0, may - 1, end + 1, next);
-    }
+    let from = must_passes(table, pass, must, may, base, next);
+    may_passes(table, pass, may, from, next);
 }
 
 // Records that are laid: where they stand and end, the number of their first group, and how many places they have.
