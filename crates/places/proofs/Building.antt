@@ -20,8 +20,8 @@ pub head-stands : (bs : List ℕ) {kind a n base v w : ℕ} {t t1 : List ℕ} �
 head-stands bs {kind} {a} {n} {base} {t1 = t1} ev h put = subst (λ (v : ℕ). Holds t1 bs base (placeOf bs kind v a n)) ev (plain-holds bs put (h .no-set))
 
 -- a head and the expression behind it
-pub head-one : {bs : List ℕ} {at stop kind a n base next first p v : ℕ} {t t1 t2 : List ℕ} → v ≡ entryOf p (base + 1) next → Head kind a n
-    → Put t base kind v a n t1 → OneLaid bs at stop (base + 1) next first p t1 t2 → HeadLaid bs at stop kind a n base next first p t t2
+pub head-one : {bs : List ℕ} {at stop kind a n base next first p g v : ℕ} {t t1 t2 : List ℕ} → v ≡ entryOf p (base + 1) next → Head kind a n
+    → Put t base kind v a n t1 → OneLaid bs at stop (base + 1) next first p g t1 t2 → HeadLaid bs at stop kind a n base next first p g t t2
 head-one {bs} {base = base} {p = p} ev h put one =
     record {
       kept = kept-both base (base + 1 + p) (put .kept) (one .kept) (omega arith) (omega arith) (omega arith) (omega arith);
@@ -30,7 +30,7 @@ head-one {bs} {base = base} {p = p} ev h put one =
     }
 
 -- the numbers of a head fit
-pub head-fits : {bs t : List ℕ} {at stop base next first p kind a n v : ℕ} → One bs at stop (base + 1) next first p → Head kind a n → 2040 ≤ length t
+pub head-fits : {bs t : List ℕ} {at stop base next first p g kind a n v : ℕ} → One bs at stop (base + 1) next first p g → Head kind a n → 2040 ≤ length t
     → v ≡ entryOf p (base + 1) next → Fitting t base v a n
 head-fits {base = base} {next = next} {p = p} m h room ev =
     record {

@@ -33,13 +33,14 @@ pub whole-groups : {bs : List ℕ} {e : Pattern} {p g k : ℕ} → Counted bs 0 
 whole-groups c w = omega (arith, c .sums (whole-counting w) .groups-are)
 
 -- its places stand from some index on, its first group is number 1
-abbrev pub whole-one : {bs : List ℕ} {e : Pattern} {p : ℕ} (base next : ℕ) → Whole bs e → p ≡ places e → base + p ≤ 510 → next ≤ 510
-    → One bs 0 (length bs) base next 1 p
-whole-one {bs} {e} base next w same room follows =
+abbrev pub whole-one : {bs : List ℕ} {e : Pattern} {p g : ℕ} (base next : ℕ) → Whole bs e → p ≡ places e → g ≡ groups e → base + p ≤ 510 → next ≤ 510
+    → One bs 0 (length bs) base next 1 p g
+whole-one {bs} {e} base next w same sameg room follows =
     record {
       tree = e;
       inside = record { stand = w .stand; end-is = w .end-is; ends = omega arith; short = w .short; few = omega (arith, w .few-groups) };
       places-are = same;
+      groups-are = sameg;
       small = omega (arith, w .few-places);
       room = room;
       follows = follows;
@@ -61,12 +62,12 @@ built-of {bs} {t} {t'} {n} c laid last kept count =
     here k = omega arith
 
 -- a whole match's places
-pub match-built : {bs t t1 t2 : List ℕ} {e : Pattern} {p : ℕ} → Whole bs e → p ≡ places e → OneLaid bs 0 (length bs) 0 p 1 p t t1 → Put t1 p 9 0 0 0 t2
+pub match-built : {bs t t1 t2 : List ℕ} {e : Pattern} {p g : ℕ} → Whole bs e → p ≡ places e → g ≡ groups e → OneLaid bs 0 (length bs) 0 p 1 p g t t1 → Put t1 p 9 0 0 0 t2
     → Built (placesOf e 1) (allPlaces e) bs t t2
-match-built {bs} {t} {t1} {t2} {e} {p} w same o put =
+match-built {bs} {t} {t1} {t2} {e} {p} {g} w same sameg o put =
     let c = writtenOut e 1 in
     let long : p ≡ size c = same ∙ sym (size-written e 1) in
-    let laid = lays-kept c bs 0 p (put .kept) (omega arith) (o .laid (whole-one 0 p w same (omega (arith, w .few-places)) (omega (arith, w .few-places)))) in
+    let laid = lays-kept c bs 0 p (put .kept) (omega arith) (o .laid (whole-one 0 p w same sameg (omega (arith, w .few-places)) (omega (arith, w .few-places)))) in
     let last = put-holds bs put (omega arith) (λ six. absurd (omega arith)) in
     let kept = kept-both 0 (allPlaces e) (o .kept) (put .kept) (omega arith) (omega arith) (omega arith) (omega arith) in
     built-of c (subst (λ (n : ℕ). Lays t2 bs c 0 n) long laid) (subst (λ (x : ℕ). Holds t2 bs x accept) long last) kept (omega arith)
@@ -91,7 +92,7 @@ star-laid {base} {mode} {next} {first} f b s e =
 
 -- a search's places
 pub search-built : {bs t t1 t2 t3 t4 t5 : List ℕ} {e : Pattern} {p g : ℕ} → Whole bs e → p ≡ places e → g ≡ groups e → StarLaid 0 1 4 0 t t1
-    → HeadLaid bs 0 (length bs) 1 0 0 4 (5 + p) 1 p t1 t2 → Put t2 (5 + p) 2 (5 + p + 1) 0 0 t3
+    → HeadLaid bs 0 (length bs) 1 0 0 4 (5 + p) 1 p g t1 t2 → Put t2 (5 + p) 2 (5 + p + 1) 0 0 t3
     → StarLaid (5 + p + 1) 0 (5 + p + 1 + 4) (g + 1) t3 t4 → Put t4 (5 + p + 1 + 4) 9 0 0 0 t5
     → Built (placesOf (wrap e) 0) (allPlaces e + 10) bs t t5
 search-built {bs} {t} {t1} {t2} {t3} {t4} {t5} {e} {p} {g} w same sameg s h close z put =
@@ -116,7 +117,7 @@ search-built {bs} {t} {t1} {t2} {t3} {t4} {t5} {e} {p} {g} w same sameg s h clos
     lays-kept inner bs 5 (5 + p) (put .kept) (omega arith)
     (lays-kept inner bs 5 (5 + p) (z .kept) (omega arith)
     (lays-kept inner bs 5 (5 + p) (close .kept) (omega arith)
-    (h .laid (whole-one 5 (5 + p) w same (omega (arith, w .few-places)) (omega (arith, w .few-places)))))) in
+    (h .laid (whole-one 5 (5 + p) w same sameg (omega (arith, w .few-places)) (omega (arith, w .few-places)))))) in
     let laid-group : Lays t5 bs group 4 (5 + p + 1) =
     captures-lays t5 bs 0 inner 4 (5 + p + 1) p long
     (holds-kept (put .kept) (omega arith) (holds-kept (z .kept) (omega arith) (holds-kept (close .kept) (omega arith) (h .head))))

@@ -100,12 +100,13 @@ module _ {bs : List ℕ} {start stop base next first least most mode p g k : ℕ
   inner-room = first-inner least (optionalPasses least (upperOf most)) base p some-pass
 
   -- what laying it asks for
-  abbrev pub inner-ask : {model : ℕ} → model ≡ innerStart least base → One bs (start + repeatHead) stop model (model + p) first p
+  abbrev pub inner-ask : {model : ℕ} → model ≡ innerStart least base → One bs (start + repeatHead) stop model (model + p) first p g
   inner-ask at =
       record {
         tree = m .tree;
         inside = m .inside;
         places-are = places-is;
+        groups-are = groups-is;
         small = omega (arith, m .small, places-is);
         room = omega (arith, at, inner-room, m .room, total);
         follows = omega (arith, at, inner-room, m .room, total);
@@ -136,7 +137,7 @@ module _ {bs : List ℕ} {start stop base next first least most mode p g k : ℕ
 
   -- the inner part and the passes lay the repeat
   passes-lay : {model may : ℕ} {t t1 t2 : List ℕ} → model ≡ innerStart least base → may ≡ optionalPasses least (upperOf most)
-      → OneLaid bs (start + repeatHead) stop model (model + p) first p t t1 → PassesLaid model p first g least may (eqb most 65535) mode base next t1 t2
+      → OneLaid bs (start + repeatHead) stop model (model + p) first p g t t1 → PassesLaid model p first g least may (eqb most 65535) mode base next t1 t2
       → Kept base (base + repeatPlaces (m .least) (m .upper) (places (m .tree))) t t2
       × Lays t2 bs (writtenOut (repeat (m .least) (m .upper) (m .mode) (m .tree)) first) base next
   passes-lay {model} {may} {t} {t1} {t2} at em inner r =
@@ -152,13 +153,13 @@ module _ {bs : List ℕ} {start stop base next first least most mode p g k : ℕ
 -- so they do for every tree that meets what was asked
 pub repeat-passes : {bs : List ℕ} {start stop base next first least most mode p g k model may : ℕ} {t t1 t2 : List ℕ} → least ≡ numberAt bs start
     → most ≡ numberAt bs (start + 2) → mode ≡ numberAt bs (start + 4) → Counted bs (start + repeatHead) stop p g k → model ≡ innerStart least base
-    → may ≡ optionalPasses least (upperOf most) → OneLaid bs (start + repeatHead) stop model (model + p) first p t t1
+    → may ≡ optionalPasses least (upperOf most) → OneLaid bs (start + repeatHead) stop model (model + p) first p g t t1
     → PassesLaid model p first g least may (eqb most 65535) mode base next t1 t2 → RepeatLaid bs start stop base next first t t2
 repeat-passes el em ed c at ek inner r =
     record { kept = λ m. passes-lay m el em ed c at ek inner r .0; laid = λ m. passes-lay m el em ed c at ek inner r .1 }
 
 -- `one` without places
-pub nothing-to-lay : {bs : List ℕ} {at stop base next first n : ℕ} {t : List ℕ} → n ≡ 0 → OneLaid bs at stop base next first n t t
+pub nothing-to-lay : {bs : List ℕ} {at stop base next first n gs : ℕ} {t : List ℕ} → n ≡ 0 → OneLaid bs at stop base next first n gs t t
 nothing-to-lay {bs} {base = base} {next = next} {first = first} {n = n} {t = t} none =
     record {
       kept = kept-none base (base + n) t;
@@ -178,8 +179,8 @@ one-kept {base} {n} {t} {t'} some k = kept-both base (base + n) k (kept-none bas
     one-more (suc n) some = omega arith
 
 -- a record that takes nothing is one place
-pub stop-laid : {bs : List ℕ} {at stop base next first n kind : ℕ} {t t' : List ℕ} → (n ≡ 0 → ⊥) → kind ≡ kindAt bs at → kind ≡ 0 → Put t base 8 0 0 0 t'
-    → OneLaid bs at stop base next first n t t'
+pub stop-laid : {bs : List ℕ} {at stop base next first n gs kind : ℕ} {t t' : List ℕ} → (n ≡ 0 → ⊥) → kind ≡ kindAt bs at → kind ≡ 0 → Put t base 8 0 0 0 t'
+    → OneLaid bs at stop base next first n gs t t'
 stop-laid {bs} {at} {base = base} {next = next} {first = first} {t' = t'} some ek none put =
     record {
       kept = one-kept some (put .kept);
@@ -222,7 +223,7 @@ pairs-laid {bs} {t' = t'} {start = start} {stop = stop} {base = base} {next = ne
     }
 
 -- a byte set is one place
-pub set-ask : {bs : List ℕ} {at stop base next first n kind : ℕ} → One bs at stop base next first n → (n ≡ 0 → ⊥) → kind ≡ kindAt bs at → kind ≡ 2
+pub set-ask : {bs : List ℕ} {at stop base next first n gs kind : ℕ} → One bs at stop base next first n gs → (n ≡ 0 → ⊥) → kind ≡ kindAt bs at → kind ≡ 2
     → Ranged bs (at + 4) stop base next
 set-ask {bs} {at} m some ek two =
     let v = set-view (m .tree) bs at (m .inside .stand) (sym ek ∙ two) in
@@ -236,8 +237,8 @@ set-ask {bs} {at} m some ek two =
       follows = m .follows;
     }
 
-pub set-laid : {bs : List ℕ} {at stop base next first n kind : ℕ} {t t' : List ℕ} → (n ≡ 0 → ⊥) → kind ≡ kindAt bs at → kind ≡ 2
-    → RangedLaid bs (at + 4) stop base next t t' → OneLaid bs at stop base next first n t t'
+pub set-laid : {bs : List ℕ} {at stop base next first n gs kind : ℕ} {t t' : List ℕ} → (n ≡ 0 → ⊥) → kind ≡ kindAt bs at → kind ≡ 2
+    → RangedLaid bs (at + 4) stop base next t t' → OneLaid bs at stop base next first n gs t t'
 set-laid {bs} {at} {base = base} {next = next} {first = first} {t' = t'} some ek two r =
     record {
       kept = one-kept some (r .kept);
@@ -248,8 +249,8 @@ set-laid {bs} {at} {base = base} {next = next} {first = first} {t' = t'} some ek
     }
 
 -- a group: its open, what it holds, its close
-abbrev pub group-one : {bs : List ℕ} {at stop base next first n kind : ℕ} → One bs at stop base next first n → kind ≡ kindAt bs at → kind ≡ 3
-    → One bs (at + 4) stop (base + 1) (base + 1 + (n - 2)) (first + 1) (n - 2)
+abbrev pub group-one : {bs : List ℕ} {at stop base next first n gs kind : ℕ} → One bs at stop base next first n gs → kind ≡ kindAt bs at → kind ≡ 3
+    → One bs (at + 4) stop (base + 1) (base + 1 + (n - 2)) (first + 1) (n - 2) (gs - 1)
 group-one {bs} {at} m ek three =
     let v = group-view (m .tree) bs at (m .inside .stand) (sym ek ∙ three) in
     let e : places (m .tree) ≡ 2 + places (v .inner) = ap places (v .is) in
@@ -264,17 +265,25 @@ group-one {bs} {at} m ek three =
         few = omega (arith, m .inside .few);
       };
       places-are = omega (arith, m .places-are);
+      groups-are = omega (arith, m .groups-are);
       small = omega (arith, m .small);
       room = omega (arith, m .room, m .places-are);
       follows = omega (arith, m .room, m .places-are);
     }
 
 -- a group has its open and its close
-pub group-two : {bs : List ℕ} {at stop base next first n kind : ℕ} → One bs at stop base next first n → kind ≡ kindAt bs at → kind ≡ 3 → 2 ≤ n
+pub group-two : {bs : List ℕ} {at stop base next first n gs kind : ℕ} → One bs at stop base next first n gs → kind ≡ kindAt bs at → kind ≡ 3 → 2 ≤ n
 group-two {bs} {at} m ek three =
     let v = group-view (m .tree) bs at (m .inside .stand) (sym ek ∙ three) in
     let e : places (m .tree) ≡ 2 + places (v .inner) = ap places (v .is) in
     omega (arith, m .places-are)
+
+-- a group is one itself
+pub group-some : {bs : List ℕ} {at stop base next first n gs kind : ℕ} → One bs at stop base next first n gs → kind ≡ kindAt bs at → kind ≡ 3 → 1 ≤ gs
+group-some {bs} {at} m ek three =
+    let v = group-view (m .tree) bs at (m .inside .stand) (sym ek ∙ three) in
+    let f : groups (m .tree) ≡ suc (groups (v .inner)) = ap groups (v .is) in
+    omega (arith, m .groups-are)
 
 -- a group, from its places
 pub captures-lays : (t bs : List ℕ) (k : ℕ) (e : Core) (base next p : ℕ) → p ≡ size e → Holds t bs base (opening k (entryOf p (base + 1) (base + 1 + p)))
@@ -287,9 +296,9 @@ captures-lays t bs k e base next p ep =
     (λ a b c. (a, b, c))
 
 -- the open, what the group holds and the close lay the group
-pub group-laid : {bs : List ℕ} {at stop base next first n kind : ℕ} {t t1 t2 : List ℕ} → One bs at stop base next first n → kind ≡ kindAt bs at
-    → kind ≡ 3 → HeadLaid bs (at + 4) stop 1 first 0 base (base + 1 + (n - 2)) (first + 1) (n - 2) t t1
-    → Put t1 (base + 1 + (n - 2)) 2 next first 0 t2 → OneLaid bs at stop base next first n t t2
+pub group-laid : {bs : List ℕ} {at stop base next first n gs kind : ℕ} {t t1 t2 : List ℕ} → One bs at stop base next first n gs → kind ≡ kindAt bs at
+    → kind ≡ 3 → HeadLaid bs (at + 4) stop 1 first 0 base (base + 1 + (n - 2)) (first + 1) (n - 2) (gs - 1) t t1
+    → Put t1 (base + 1 + (n - 2)) 2 next first 0 t2 → OneLaid bs at stop base next first n gs t t2
 group-laid {bs} {at} {stop} {base} {next} {first} {n} {t2 = t2} m0 ek three h put =
     record {
       kept = kept-both base (base + n) (h .kept) (put .kept) (omega arith) (omega (arith, group-two m0 ek three)) (omega arith)
@@ -306,7 +315,7 @@ group-laid {bs} {at} {stop} {base} {next} {first} {n} {t2 = t2} m0 ek three h pu
     }
 
 -- a repeat
-abbrev pub repeat-ask : {bs : List ℕ} {at stop base next first n kind : ℕ} → One bs at stop base next first n → (n ≡ 0 → ⊥) → kind ≡ kindAt bs at
+abbrev pub repeat-ask : {bs : List ℕ} {at stop base next first n gs kind : ℕ} → One bs at stop base next first n gs → (n ≡ 0 → ⊥) → kind ≡ kindAt bs at
     → kind ≡ 6 → Repeat bs (at + 4) stop base next first
 repeat-ask {bs} {at} {n = n} m some ek six =
     let v = repeat-view (m .tree) bs at (m .inside .stand) (sym ek ∙ six) in
@@ -336,8 +345,8 @@ repeat-ask {bs} {at} {n = n} m some ek six =
     positive {b = suc b} not e = omega arith
 
 -- a repeat is laid by its passes
-pub repeat-laid : {bs : List ℕ} {at stop base next first n kind : ℕ} {t t' : List ℕ} → One bs at stop base next first n → (n ≡ 0 → ⊥)
-    → kind ≡ kindAt bs at → kind ≡ 6 → RepeatLaid bs (at + 4) stop base next first t t' → OneLaid bs at stop base next first n t t'
+pub repeat-laid : {bs : List ℕ} {at stop base next first n gs kind : ℕ} {t t' : List ℕ} → One bs at stop base next first n gs → (n ≡ 0 → ⊥)
+    → kind ≡ kindAt bs at → kind ≡ 6 → RepeatLaid bs (at + 4) stop base next first t t' → OneLaid bs at stop base next first n gs t t'
 repeat-laid {bs} {at} {stop} {base} {next} {first} {n} {t = t} {t' = t'} m0 some ek six r =
     let v0 = repeat-view (m0 .tree) bs at (m0 .inside .stand) (sym ek ∙ six) in
     record {
@@ -346,17 +355,17 @@ repeat-laid {bs} {at} {stop} {base} {next} {first} {n} {t = t} {t' = t'} m0 some
     }
 
 -- a sequence or an alternation: any other record that has places
-module _ {bs : List ℕ} {at stop base next first n kind : ℕ} (some : n ≡ 0 → ⊥) (ek : kind ≡ kindAt bs at) (k0 : kind ≡ 0 → ⊥) (k2 : kind ≡ 2 → ⊥)
+module _ {bs : List ℕ} {at stop base next first n gs kind : ℕ} (some : n ≡ 0 → ⊥) (ek : kind ≡ kindAt bs at) (k0 : kind ≡ 0 → ⊥) (k2 : kind ≡ 2 → ⊥)
     (k3 : kind ≡ 3 → ⊥) (k6 : kind ≡ 6 → ⊥) where
   -- the members of the record
-  pub row-of : (m : One bs at stop base next first n) → RowView bs at (eqb kind 5) (m .tree)
+  pub row-of : (m : One bs at stop base next first n gs) → RowView bs at (eqb kind 5) (m .tree)
   row-of m =
       subst (λ (k : ℕ). RowView bs at (eqb k 5) (m .tree)) (sym ek)
       (row-view (m .tree) bs at (m .inside .stand) (λ e. some (m .places-are ∙ e)) (λ e. k0 (ek ∙ e)) (λ e. k2 (ek ∙ e)) (λ e. k3 (ek ∙ e))
       (λ e. k6 (ek ∙ e)))
 
   -- what the row of them is asked for
-  abbrev pub row-ask : One bs at stop base next first n → Several bs (at + 4) stop (eqb kind 5) base next first n
+  abbrev pub row-ask : One bs at stop base next first n gs → Several bs (at + 4) stop (eqb kind 5) base next first n gs
   row-ask m =
       let v = row-of m in
       record {
@@ -367,26 +376,28 @@ module _ {bs : List ℕ} {at stop base next first n kind : ℕ} (some : n ≡ 0 
         short = m .inside .short;
         few = omega (arith, m .inside .few, v .groups-are);
         places-are = m .places-are ∙ v .places-are;
+        groups-are = m .groups-are ∙ v .groups-are;
         small = m .small;
         room = m .room;
         follows = m .follows;
       }
 
   -- the row lays the record
-  pub row-laid : {t t' : List ℕ} → SeveralLaid bs (at + 4) stop (eqb kind 5) base next first n t t' → OneLaid bs at stop base next first n t t'
+  pub row-laid : {t t' : List ℕ} → SeveralLaid bs (at + 4) stop (eqb kind 5) base next first n gs t t' → OneLaid bs at stop base next first n gs t t'
   row-laid {t' = t'} r =
       record { kept = r .kept; laid = λ m. subst (λ (c : Core). Lays t' bs c base next) (sym (row-of m .written first)) (r .laid (row-ask m)) }
 
 -- the last record of a row, and one with others behind it
-pub record Last (bs : List ℕ) (at stop first n : ℕ) (es : List Pattern) : Type 0 where
+pub record Last (bs : List ℕ) (at stop first n gs : ℕ) (es : List Pattern) : Type 0 where
   pub tree : Pattern
   pub is : es ≡ tree ∷ []
   pub stand : Stands bs at tree
   pub places-are : n ≡ places tree
+  pub groups-are : gs ≡ groups tree
   pub few : first + groups tree ≤ 10
 
 -- a record that is not the last
-pub record More (bs : List ℕ) (at stop : ℕ) (forks : Bool) (first n : ℕ) (es : List Pattern) : Type 0 where
+pub record More (bs : List ℕ) (at stop : ℕ) (forks : Bool) (first n gs : ℕ) (es : List Pattern) : Type 0 where
   pub tree : Pattern
   pub second : Pattern
   pub others : List Pattern
@@ -394,42 +405,44 @@ pub record More (bs : List ℕ) (at stop : ℕ) (forks : Bool) (first n : ℕ) (
   pub stand : Stands bs at tree
   pub rest : Row bs (bodyEnd bs at) stop (second ∷ others)
   pub places-are : n ≡ rowPlaces forks (tree ∷ second ∷ others)
+  pub groups-are : gs ≡ groupsIn (tree ∷ second ∷ others)
   pub few : first + groupsIn (tree ∷ second ∷ others) ≤ 10
 
-last-of : {bs : List ℕ} {at stop first n : ℕ} (forks : Bool) (es : List Pattern) → Row bs at stop es → at < stop → n ≡ rowPlaces forks es
-    → first + groupsIn es ≤ 10 → bodyEnd bs at ≡ stop → Last bs at stop first n es
-last-of forks [] h lt p g e = absurd (omega arith)
-last-of false (x ∷ []) h lt p g e = record { tree = x; is = refl; stand = h .0; places-are = omega arith; few = omega arith }
-last-of true (x ∷ []) h lt p g e = record { tree = x; is = refl; stand = h .0; places-are = omega arith; few = omega arith }
-last-of {bs} {at} {stop} forks (x ∷ y ∷ es) h lt p g e = absurd (omega (arith, row-long (y ∷ es) bs (bodyEnd bs at) stop (h .1)))
+last-of : {bs : List ℕ} {at stop first n gs : ℕ} (forks : Bool) (es : List Pattern) → Row bs at stop es → at < stop → n ≡ rowPlaces forks es
+    → gs ≡ groupsIn es → first + groupsIn es ≤ 10 → bodyEnd bs at ≡ stop → Last bs at stop first n gs es
+last-of forks [] h lt p q g e = absurd (omega arith)
+last-of false (x ∷ []) h lt p q g e = record { tree = x; is = refl; stand = h .0; places-are = omega arith; groups-are = omega arith; few = omega arith }
+last-of true (x ∷ []) h lt p q g e = record { tree = x; is = refl; stand = h .0; places-are = omega arith; groups-are = omega arith; few = omega arith }
+last-of {bs} {at} {stop} forks (x ∷ y ∷ es) h lt p q g e = absurd (omega (arith, row-long (y ∷ es) bs (bodyEnd bs at) stop (h .1)))
 
-more-of : {bs : List ℕ} {at stop first n : ℕ} (forks : Bool) (es : List Pattern) → Row bs at stop es → at < stop → n ≡ rowPlaces forks es
-    → first + groupsIn es ≤ 10 → (bodyEnd bs at ≡ stop → ⊥) → More bs at stop forks first n es
-more-of forks [] h lt p g e = absurd (omega arith)
-more-of forks (x ∷ []) h lt p g e = absurd (e (h .1))
-more-of forks (x ∷ y ∷ es) h lt p g e = record { tree = x; second = y; others = es; is = refl; stand = h .0; rest = h .1; places-are = p; few = g }
+more-of : {bs : List ℕ} {at stop first n gs : ℕ} (forks : Bool) (es : List Pattern) → Row bs at stop es → at < stop → n ≡ rowPlaces forks es
+    → gs ≡ groupsIn es → first + groupsIn es ≤ 10 → (bodyEnd bs at ≡ stop → ⊥) → More bs at stop forks first n gs es
+more-of forks [] h lt p q g e = absurd (omega arith)
+more-of forks (x ∷ []) h lt p q g e = absurd (e (h .1))
+more-of forks (x ∷ y ∷ es) h lt p q g e = record { tree = x; second = y; others = es; is = refl; stand = h .0; rest = h .1; places-are = p; groups-are = q; few = g }
 
 -- `row`, the last record
-module _ {bs : List ℕ} {at stop base next first n end : ℕ} {forks : Bool} (ee : end ≡ bodyEnd bs at) (es : end ≡ stop) where
+module _ {bs : List ℕ} {at stop base next first n gs end : ℕ} {forks : Bool} (ee : end ≡ bodyEnd bs at) (es : end ≡ stop) where
   -- the record is the last
-  pub last : (m : Several bs at stop forks base next first n) → Last bs at stop first n (m .records)
-  last m = last-of forks (m .records) (m .stand) (m .some) (m .places-are) (m .few) (sym ee ∙ es)
+  pub last : (m : Several bs at stop forks base next first n gs) → Last bs at stop first n gs (m .records)
+  last m = last-of forks (m .records) (m .stand) (m .some) (m .places-are) (m .groups-are) (m .few) (sym ee ∙ es)
 
   -- what it is asked for
-  abbrev pub last-one : Several bs at stop forks base next first n → One bs at stop base next first n
+  abbrev pub last-one : Several bs at stop forks base next first n gs → One bs at stop base next first n gs
   last-one m =
       let v = last m in
       record {
         tree = v .tree;
         inside = record { stand = v .stand; end-is = sym ee ∙ es; ends = m .ends; short = m .short; few = v .few };
         places-are = v .places-are;
+        groups-are = v .groups-are;
         small = m .small;
         room = m .room;
         follows = m .follows;
       }
 
   -- it lays the row
-  pub last-laid : {t t' : List ℕ} → OneLaid bs at stop base next first n t t' → SeveralLaid bs at stop forks base next first n t t'
+  pub last-laid : {t t' : List ℕ} → OneLaid bs at stop base next first n gs t t' → SeveralLaid bs at stop forks base next first n gs t t'
   last-laid {t' = t'} o =
       record {
         kept = o .kept;
@@ -437,13 +450,13 @@ module _ {bs : List ℕ} {at stop base next first n end : ℕ} {forks : Bool} (e
       }
 
 -- `row`, a record with others behind it: what it adds up to
-module _ {bs : List ℕ} {at stop base next first n end : ℕ} {forks : Bool} (ee : end ≡ bodyEnd bs at) (es : end ≡ stop → ⊥) where
+module _ {bs : List ℕ} {at stop base next first n gs end : ℕ} {forks : Bool} (ee : end ≡ bodyEnd bs at) (es : end ≡ stop → ⊥) where
   -- the record is not the last
-  pub more : (m : Several bs at stop forks base next first n) → More bs at stop forks first n (m .records)
-  more m = more-of forks (m .records) (m .stand) (m .some) (m .places-are) (m .few) (λ e. es (ee ∙ e))
+  pub more : (m : Several bs at stop forks base next first n gs) → More bs at stop forks first n gs (m .records)
+  more m = more-of forks (m .records) (m .stand) (m .some) (m .places-are) (m .groups-are) (m .few) (λ e. es (ee ∙ e))
 
   -- it is counted alone
-  abbrev pub more-counting : Several bs at stop forks base next first n → Counting bs at end
+  abbrev pub more-counting : Several bs at stop forks base next first n gs → Counting bs at end
   more-counting m =
       let v = more m in
       record {
@@ -455,7 +468,7 @@ module _ {bs : List ℕ} {at stop base next first n end : ℕ} {forks : Bool} (e
       }
 
   -- it has no more places than the row
-  pub more-small : (m : Several bs at stop forks base next first n) → places (more m .tree) + placesIn (more m .second ∷ more m .others) ≤ n
+  pub more-small : (m : Several bs at stop forks base next first n gs) → places (more m .tree) + placesIn (more m .second ∷ more m .others) ≤ n
   more-small m = least forks (more m .tree ∷ more m .second ∷ more m .others) (more m .places-are)
     where
       least : (f : Bool) (es : List Pattern) → n ≡ rowPlaces f es → placesIn es ≤ n
@@ -463,16 +476,20 @@ module _ {bs : List ℕ} {at stop base next first n end : ℕ} {forks : Bool} (e
       least true es e = omega arith
 
   -- its places
-  pub more-places : {p g k : ℕ} → Counted bs at end p g k → (m : Several bs at stop forks base next first n) → p ≡ places (more m .tree)
+  pub more-places : {p g k : ℕ} → Counted bs at end p g k → (m : Several bs at stop forks base next first n gs) → p ≡ places (more m .tree)
   more-places c m = omega (arith, c .sums (more-counting m) .places-are (omega (arith, more-small m, m .small)))
 
   -- its groups
-  pub more-groups : {p g k : ℕ} → Counted bs at end p g k → (m : Several bs at stop forks base next first n) → g ≡ groups (more m .tree)
+  pub more-groups : {p g k : ℕ} → Counted bs at end p g k → (m : Several bs at stop forks base next first n gs) → g ≡ groups (more m .tree)
   more-groups c m = omega (arith, c .sums (more-counting m) .groups-are)
 
   -- the groups up to the next record are few
-  pub more-few : {p g k : ℕ} → Counted bs at end p g k → (m : Several bs at stop forks base next first n) → first + g ≤ 10
+  pub more-few : {p g k : ℕ} → Counted bs at end p g k → (m : Several bs at stop forks base next first n gs) → first + g ≤ 10
   more-few c m = omega (arith, more m .few, more-groups c m)
+
+  -- it has no more groups than the row
+  pub more-inside : {p g k : ℕ} → Counted bs at end p g k → (m : Several bs at stop forks base next first n gs) → g ≤ gs
+  more-inside c m = omega (arith, more m .groups-are, more-groups c m)
 
 -- one expression, then another
 pub chain-lays : (t bs : List ℕ) (a b : Core) (base next p v : ℕ) → p ≡ size a → v ≡ entryOf (size b) (base + p) next → Lays t bs a base v
@@ -496,26 +513,27 @@ either-lays t bs a b base next p v ep ev =
     ev
 
 -- a record of a sequence, then the others
-module _ {bs : List ℕ} {at stop base next first n end p g k : ℕ} (ee : end ≡ bodyEnd bs at) (es : end ≡ stop → ⊥) (c : Counted bs at end p g k) where
+module _ {bs : List ℕ} {at stop base next first n gs end p g k : ℕ} (ee : end ≡ bodyEnd bs at) (es : end ≡ stop → ⊥) (c : Counted bs at end p g k) where
   -- its places and those of the others are the places of the sequence
-  pub chain-sum : (m : Several bs at stop false base next first n) → n ≡ p + placesIn (more ee es m .second ∷ more ee es m .others)
+  pub chain-sum : (m : Several bs at stop false base next first n gs) → n ≡ p + placesIn (more ee es m .second ∷ more ee es m .others)
   chain-sum m = omega (arith, more ee es m .places-are, more-places ee es c m)
 
   -- what it is asked for
-  abbrev pub chain-one : (v : ℕ) → v ≡ entryOf (n - p) (base + p) next → Several bs at stop false base next first n → One bs at end base v first p
+  abbrev pub chain-one : (v : ℕ) → v ≡ entryOf (n - p) (base + p) next → Several bs at stop false base next first n gs → One bs at end base v first p g
   chain-one v ev m =
       let w = more ee es m in
       record {
         tree = w .tree;
         inside = record { stand = w .stand; end-is = sym ee; ends = more-counting ee es m .ends; short = m .short; few = omega (arith, w .few) };
         places-are = more-places ee es c m;
+        groups-are = more-groups ee es c m;
         small = omega (arith, chain-sum m, m .small);
         room = omega (arith, chain-sum m, m .room);
         follows = omega (arith, ev, entry-small (n - p) (base + p) next {most = 510} (omega (arith, chain-sum m, m .room)) (m .follows));
       }
 
   -- what the others are asked for
-  abbrev pub chain-rest : Several bs at stop false base next first n → Several bs end stop false (base + p) next (first + g) (n - p)
+  abbrev pub chain-rest : Several bs at stop false base next first n gs → Several bs end stop false (base + p) next (first + g) (n - p) (gs - g)
   chain-rest m =
       let w = more ee es m in
       record {
@@ -526,15 +544,16 @@ module _ {bs : List ℕ} {at stop base next first n end p g k : ℕ} (ee : end �
         short = m .short;
         few = omega (arith, w .few, more-groups ee es c m);
         places-are = omega (arith, chain-sum m);
+        groups-are = omega (arith, w .groups-are, more-groups ee es c m);
         small = omega (arith, m .small);
         room = omega (arith, chain-sum m, m .room);
         follows = m .follows;
       }
 
   -- both lay the sequence
-  pub chain-laid : {v : ℕ} {t t1 t2 : List ℕ} → v ≡ entryOf (n - p) (base + p) next → Several bs at stop false base next first n
-      → OneLaid bs at end base v first p t t1 → SeveralLaid bs end stop false (base + p) next (first + g) (n - p) t1 t2
-      → SeveralLaid bs at stop false base next first n t t2
+  pub chain-laid : {v : ℕ} {t t1 t2 : List ℕ} → v ≡ entryOf (n - p) (base + p) next → Several bs at stop false base next first n gs
+      → OneLaid bs at end base v first p g t t1 → SeveralLaid bs end stop false (base + p) next (first + g) (n - p) (gs - g) t1 t2
+      → SeveralLaid bs at stop false base next first n gs t t2
   chain-laid {v} {t} {t1} {t2} ev m0 o r =
       record {
         kept = kept-both base (base + n) (o .kept) (r .kept) (omega arith) (omega (arith, chain-sum m0)) (omega arith) (omega (arith, chain-sum m0));
@@ -552,26 +571,27 @@ module _ {bs : List ℕ} {at stop base next first n end p g k : ℕ} (ee : end �
       }
 
 -- a record of an alternation behind its fork, then the others
-module _ {bs : List ℕ} {at stop base next first n end p g k : ℕ} (ee : end ≡ bodyEnd bs at) (es : end ≡ stop → ⊥) (c : Counted bs at end p g k) where
+module _ {bs : List ℕ} {at stop base next first n gs end p g k : ℕ} (ee : end ≡ bodyEnd bs at) (es : end ≡ stop → ⊥) (c : Counted bs at end p g k) where
   -- the fork, its places and those of the others are the places of the alternation
-  pub fork-sum : (m : Several bs at stop true base next first n) → n ≡ 1 + p + rowPlaces true (more ee es m .second ∷ more ee es m .others)
+  pub fork-sum : (m : Several bs at stop true base next first n gs) → n ≡ 1 + p + rowPlaces true (more ee es m .second ∷ more ee es m .others)
   fork-sum m = omega (arith, more ee es m .places-are, more-places ee es c m)
 
   -- what it is asked for
-  abbrev pub fork-one : Several bs at stop true base next first n → One bs at end (base + 1) next first p
+  abbrev pub fork-one : Several bs at stop true base next first n gs → One bs at end (base + 1) next first p g
   fork-one m =
       let w = more ee es m in
       record {
         tree = w .tree;
         inside = record { stand = w .stand; end-is = sym ee; ends = more-counting ee es m .ends; short = m .short; few = omega (arith, w .few) };
         places-are = more-places ee es c m;
+        groups-are = more-groups ee es c m;
         small = omega (arith, fork-sum m, m .small);
         room = omega (arith, fork-sum m, m .room);
         follows = m .follows;
       }
 
   -- what the others are asked for
-  abbrev pub fork-rest : Several bs at stop true base next first n → Several bs end stop true (base + 1 + p) next (first + g) (n - 1 - p)
+  abbrev pub fork-rest : Several bs at stop true base next first n gs → Several bs end stop true (base + 1 + p) next (first + g) (n - 1 - p) (gs - g)
   fork-rest m =
       let w = more ee es m in
       record {
@@ -582,6 +602,7 @@ module _ {bs : List ℕ} {at stop base next first n end p g k : ℕ} (ee : end �
         short = m .short;
         few = omega (arith, w .few, more-groups ee es c m);
         places-are = omega (arith, fork-sum m);
+        groups-are = omega (arith, w .groups-are, more-groups ee es c m);
         small = omega (arith, m .small);
         room = omega (arith, fork-sum m, m .room);
         follows = m .follows;
@@ -589,8 +610,8 @@ module _ {bs : List ℕ} {at stop base next first n end p g k : ℕ} (ee : end �
 
   -- the fork and both lay the alternation
   pub fork-laid : {u v : ℕ} {t t1 t2 t3 : List ℕ} → u ≡ entryOf p (base + 1) next → v ≡ entryOf (n - 1 - p) (base + 1 + p) next
-      → Several bs at stop true base next first n → Put t base 0 u v 0 t1 → OneLaid bs at end (base + 1) next first p t1 t2
-      → SeveralLaid bs end stop true (base + 1 + p) next (first + g) (n - 1 - p) t2 t3 → SeveralLaid bs at stop true base next first n t t3
+      → Several bs at stop true base next first n gs → Put t base 0 u v 0 t1 → OneLaid bs at end (base + 1) next first p g t1 t2
+      → SeveralLaid bs end stop true (base + 1 + p) next (first + g) (n - 1 - p) (gs - g) t2 t3 → SeveralLaid bs at stop true base next first n gs t t3
   fork-laid {u} {v} {t} {t1} {t2} {t3} eu ev m0 put o r =
       let high = base + n in
       record {
@@ -613,7 +634,7 @@ module _ {bs : List ℕ} {at stop base next first n end p g k : ℕ} (ee : end �
       }
 
 -- the first record of a row ends inside the holder
-pub row-header : {bs : List ℕ} {at stop base next first n : ℕ} {forks : Bool} → Several bs at stop forks base next first n → bodyEnd bs at ≤ stop
+pub row-header : {bs : List ℕ} {at stop base next first n gs : ℕ} {forks : Bool} → Several bs at stop forks base next first n gs → bodyEnd bs at ≤ stop
 row-header {bs} {at} {stop} m = on (m .records) (m .stand) (m .some)
   where
     on : (es : List Pattern) → Row bs at stop es → at < stop → bodyEnd bs at ≤ stop
@@ -621,23 +642,23 @@ row-header {bs} {at} {stop} m = on (m .records) (m .stand) (m .some)
     on (e ∷ es) h lt = omega (arith, row-long es bs (bodyEnd bs at) stop (h .1))
 
 -- `chained` and `forked`, record by record: what is left is a row, and whoever lays it has laid all
-pub record Along (bs : List ℕ) (start stop : ℕ) (forks : Bool) (base next first n : ℕ) (before : List ℕ) (at end from first' left : ℕ) (now : List ℕ) : Type 0 where
-  pub row : Several bs at stop forks from next first' left
+pub record Along (bs : List ℕ) (start stop : ℕ) (forks : Bool) (base next first n gs : ℕ) (before : List ℕ) (at end from first' left inside : ℕ) (now : List ℕ) : Type 0 where
+  pub row : Several bs at stop forks from next first' left inside
   pub end-is : end ≡ bodyEnd bs at
   pub passed : start ≤ at
   pub same-length : length now ≡ length before
-  pub laid : (after : List ℕ) → SeveralLaid bs at stop forks from next first' left now after → SeveralLaid bs start stop forks base next first n before after
+  pub laid : (after : List ℕ) → SeveralLaid bs at stop forks from next first' left inside now after → SeveralLaid bs start stop forks base next first n gs before after
 
 -- all records are left
-pub along-all : {bs : List ℕ} {start stop base next first n end : ℕ} {forks : Bool} (t : List ℕ) → Several bs start stop forks base next first n
-    → end ≡ bodyEnd bs start → Along bs start stop forks base next first n t start end base first n t
+pub along-all : {bs : List ℕ} {start stop base next first n gs end : ℕ} {forks : Bool} (t : List ℕ) → Several bs start stop forks base next first n gs
+    → end ≡ bodyEnd bs start → Along bs start stop forks base next first n gs t start end base first n gs t
 along-all t m ee = record { row = m; end-is = ee; passed = omega arith; same-length = refl; laid = λ after r. r }
 
 -- one record less
-pub along-chain : {bs : List ℕ} {start stop base next first n at end end' from first' left p g k v : ℕ} {t0 t t1 : List ℕ}
-    → Along bs start stop false base next first n t0 at end from first' left t → (end ≡ stop → ⊥) → Counted bs at end p g k
-    → v ≡ entryOf (left - p) (from + p) next → OneLaid bs at end from v first' p t t1 → end' ≡ bodyEnd bs end
-    → Along bs start stop false base next first n t0 end end' (from + p) (first' + g) (left - p) t1
+pub along-chain : {bs : List ℕ} {start stop base next first n gs at end end' from first' left inside p g k v : ℕ} {t0 t t1 : List ℕ}
+    → Along bs start stop false base next first n gs t0 at end from first' left inside t → (end ≡ stop → ⊥) → Counted bs at end p g k
+    → v ≡ entryOf (left - p) (from + p) next → OneLaid bs at end from v first' p g t t1 → end' ≡ bodyEnd bs end
+    → Along bs start stop false base next first n gs t0 end end' (from + p) (first' + g) (left - p) (inside - g) t1
 along-chain i es c ev o ee' =
     record {
       row = chain-rest (i .end-is) es c (i .row);
@@ -648,11 +669,11 @@ along-chain i es c ev o ee' =
     }
 
 -- one less behind its fork
-pub along-fork : {bs : List ℕ} {start stop base next first n at end end' from first' left p g k u v : ℕ} {t0 t t1 t2 : List ℕ}
-    → Along bs start stop true base next first n t0 at end from first' left t → (end ≡ stop → ⊥) → Counted bs at end p g k
+pub along-fork : {bs : List ℕ} {start stop base next first n gs at end end' from first' left inside p g k u v : ℕ} {t0 t t1 t2 : List ℕ}
+    → Along bs start stop true base next first n gs t0 at end from first' left inside t → (end ≡ stop → ⊥) → Counted bs at end p g k
     → u ≡ entryOf p (from + 1) next → v ≡ entryOf (left - 1 - p) (from + 1 + p) next → Put t from 0 u v 0 t1
-    → OneLaid bs at end (from + 1) next first' p t1 t2 → end' ≡ bodyEnd bs end
-    → Along bs start stop true base next first n t0 end end' (from + 1 + p) (first' + g) (left - 1 - p) t2
+    → OneLaid bs at end (from + 1) next first' p g t1 t2 → end' ≡ bodyEnd bs end
+    → Along bs start stop true base next first n gs t0 end end' (from + 1 + p) (first' + g) (left - 1 - p) (inside - g) t2
 along-fork i es c eu ev put o ee' =
     record {
       row = fork-rest (i .end-is) es c (i .row);
@@ -663,14 +684,14 @@ along-fork i es c eu ev put o ee' =
     }
 
 -- the last record
-pub along-last : {bs : List ℕ} {start stop base next first n at end from first' left : ℕ} {forks : Bool} {t0 t t1 : List ℕ}
-    → Along bs start stop forks base next first n t0 at end from first' left t → end ≡ stop → OneLaid bs at stop from next first' left t t1
-    → SeveralLaid bs start stop forks base next first n t0 t1
+pub along-last : {bs : List ℕ} {start stop base next first n gs at end from first' left inside : ℕ} {forks : Bool} {t0 t t1 : List ℕ}
+    → Along bs start stop forks base next first n gs t0 at end from first' left inside t → end ≡ stop → OneLaid bs at stop from next first' left inside t t1
+    → SeveralLaid bs start stop forks base next first n gs t0 t1
 along-last i es o = i .laid _ (last-laid (i .end-is) es o)
 
 -- the numbers of a fork fit
-pub fork-fits : {bs : List ℕ} {start stop base next first n at end from first' left p g k u v : ℕ} {t0 t : List ℕ}
-    → Along bs start stop true base next first n t0 at end from first' left t → (end ≡ stop → ⊥) → Counted bs at end p g k
+pub fork-fits : {bs : List ℕ} {start stop base next first n gs at end from first' left inside p g k u v : ℕ} {t0 t : List ℕ}
+    → Along bs start stop true base next first n gs t0 at end from first' left inside t → (end ≡ stop → ⊥) → Counted bs at end p g k
     → u ≡ entryOf p (from + 1) next → v ≡ entryOf (left - 1 - p) (from + 1 + p) next → 2040 ≤ length t0 → Fitting t from u v 0
 fork-fits {next = next} {from = from} {left = left} {p = p} i es c eu ev room =
     let m = i .row in

@@ -127,18 +127,19 @@ pub record RangedLaid (bs : List ℕ) (start stop base next : ℕ) (before after
   pub kept : Kept base (base + 1) before after
   pub held : Holds after bs base (set (rangesOf (part bs start stop)) next)
 
--- `one`: a record that has so many places, and room for them
-pub record One (bs : List ℕ) (at stop base next first n : ℕ) : Type 0 where
+-- `one`: a record that has so many places and groups, and room for the places
+pub record One (bs : List ℕ) (at stop base next first n g : ℕ) : Type 0 where
   pub tree : Pattern
   pub inside : Inside bs at stop first tree
   pub places-are : n ≡ places tree
+  pub groups-are : g ≡ groups tree
   pub small : n ≤ patternPlaces
   pub room : base + n ≤ mostPlaces
   pub follows : next ≤ mostPlaces
 
-pub record OneLaid (bs : List ℕ) (at stop base next first n : ℕ) (before after : List ℕ) : Type 0 where
+pub record OneLaid (bs : List ℕ) (at stop base next first n g : ℕ) (before after : List ℕ) : Type 0 where
   pub kept : Kept base (base + n) before after
-  pub laid : (m : One bs at stop base next first n) → Lays after bs (writtenOut (m .tree) first) base next
+  pub laid : (m : One bs at stop base next first n g) → Lays after bs (writtenOut (m .tree) first) base next
 
 -- `headed`: the place before an expression is an open, or a begin of a pass
 pub record Head (kind a n : ℕ) : Type 0 where
@@ -146,13 +147,13 @@ pub record Head (kind a n : ℕ) : Type 0 where
   pub a-small : a ≤ rowCount
   pub n-small : n ≤ rowCount
 
-pub record HeadLaid (bs : List ℕ) (at stop kind a n base next first p : ℕ) (before after : List ℕ) : Type 0 where
+pub record HeadLaid (bs : List ℕ) (at stop kind a n base next first p g : ℕ) (before after : List ℕ) : Type 0 where
   pub kept : Kept base (base + 1 + p) before after
   pub head : Holds after bs base (placeOf bs kind (entryOf p (base + 1) next) a n)
-  pub laid : (m : One bs at stop (base + 1) next first p) → Lays after bs (writtenOut (m .tree) first) (base + 1) next
+  pub laid : (m : One bs at stop (base + 1) next first p g) → Lays after bs (writtenOut (m .tree) first) (base + 1) next
 
 -- `row`: at least one record, and room for all
-pub record Several (bs : List ℕ) (at stop : ℕ) (forks : Bool) (base next first n : ℕ) : Type 0 where
+pub record Several (bs : List ℕ) (at stop : ℕ) (forks : Bool) (base next first n g : ℕ) : Type 0 where
   pub records : List Pattern
   pub stand : Row bs at stop records
   pub some : at < stop
@@ -160,13 +161,14 @@ pub record Several (bs : List ℕ) (at stop : ℕ) (forks : Bool) (base next fir
   pub short : length bs ≤ patternBytes
   pub few : first + groupsIn records ≤ rowCount
   pub places-are : n ≡ rowPlaces forks records
+  pub groups-are : g ≡ groupsIn records
   pub small : n ≤ patternPlaces
   pub room : base + n ≤ mostPlaces
   pub follows : next ≤ mostPlaces
 
-pub record SeveralLaid (bs : List ℕ) (at stop : ℕ) (forks : Bool) (base next first n : ℕ) (before after : List ℕ) : Type 0 where
+pub record SeveralLaid (bs : List ℕ) (at stop : ℕ) (forks : Bool) (base next first n g : ℕ) (before after : List ℕ) : Type 0 where
   pub kept : Kept base (base + n) before after
-  pub laid : (m : Several bs at stop forks base next first n) → Lays after bs (rowCore forks (m .records) first) base next
+  pub laid : (m : Several bs at stop forks base next first n g) → Lays after bs (rowCore forks (m .records) first) base next
 
 -- `passes`: passes that must be made, then optional ones; without an upper end there is one of these
 abbrev pub optionalCore : Bool → ℕ → Mode → ℕ → ℕ → Core → Core

@@ -364,12 +364,13 @@ fn passes(table: &mut [u16], pass: Pass, must: usize, may: usize, base: usize, n
     may_passes(table, pass, may, from, next);
 }
 
-// Records that are laid: where they stand and end, the number of their first group, and how many places they have.
+// Records that are laid: where they stand and end, the number of their first group, and how many places and groups they have.
 struct Part {
     at: usize,
     stop: usize,
     first: usize,
     places: usize,
+    groups: usize,
 }
 
 // Where the record at an offset ends.
@@ -392,10 +393,10 @@ fn headed(
     base: usize,
     next: usize,
 )
-    requires { ⌜ One (now pattern) (part .at) (part .stop) (base + 1) next (part .first) (part .places) ⌝ }
+    requires { ⌜ One (now pattern) (part .at) (part .stop) (base + 1) next (part .first) (part .places) (part .groups) ⌝ }
     requires { ⌜ Head kind a n ⌝ }
     requires { ⌜ tableRoom ≤ length (now table) ⌝ }
-    ensures { λ _. ⌜ HeadLaid (now (pattern .entry)) (part .at) (part .stop) kind a n base next (part .first) (part .places) (now (table .entry)) (now (table .exit)) ⌝ }
+    ensures { λ _. ⌜ HeadLaid (now (pattern .entry)) (part .at) (part .stop) kind a n base next (part .first) (part .places) (part .groups) (now (table .entry)) (now (table .exit)) ⌝ }
 {
     put(
         table,
@@ -434,6 +435,7 @@ fn repeated(
         stop,
         first,
         places,
+        groups: inside.groups,
     };
     let pass = Pass {
         model,
@@ -464,14 +466,15 @@ fn set_place(pattern: &[u8], table: &mut [u16], start: usize, stop: usize, base:
 
 // The places of one record.
 fn one(pattern: &[u8], table: &mut [u16], part: Part, base: usize, next: usize)
-    requires { ⌜ One (now pattern) (part .at) (part .stop) base next (part .first) (part .places) ⌝ }
+    requires { ⌜ One (now pattern) (part .at) (part .stop) base next (part .first) (part .places) (part .groups) ⌝ }
     requires { ⌜ tableRoom ≤ length (now table) ⌝ }
-    ensures { λ _. ⌜ OneLaid (now (pattern .entry)) (part .at) (part .stop) base next (part .first) (part .places) (now (table .entry)) (now (table .exit)) ⌝ }
+    ensures { λ _. ⌜ OneLaid (now (pattern .entry)) (part .at) (part .stop) base next (part .first) (part .places) (part .groups) (now (table .entry)) (now (table .exit)) ⌝ }
 {
     let at = part.at;
     let stop = part.stop;
     let first = part.first;
     let places = part.places;
+    let groups = part.groups;
     let kind = number_at(pattern, at + 2);
     let start = at + 4;
     if places == 0 {} else if kind == Kind::NOTHING {
@@ -485,6 +488,7 @@ fn one(pattern: &[u8], table: &mut [u16], part: Part, base: usize, next: usize)
             stop,
             first: first + 1,
             places: places - 2,
+            groups: groups - 1,
         };
         headed(
             pattern,
@@ -505,6 +509,7 @@ fn one(pattern: &[u8], table: &mut [u16], part: Part, base: usize, next: usize)
             stop,
             first,
             places,
+            groups,
         };
         row(pattern, table, inner, kind == Kind::ALTERNATION, base, next);
     }
@@ -512,9 +517,9 @@ fn one(pattern: &[u8], table: &mut [u16], part: Part, base: usize, next: usize)
 
 // The places of records that stand one after another, as a sequence or with the forks of an alternation.
 fn row(pattern: &[u8], table: &mut [u16], part: Part, forks: bool, base: usize, next: usize)
-    requires { ⌜ Several (now pattern) (part .at) (part .stop) forks base next (part .first) (part .places) ⌝ }
+    requires { ⌜ Several (now pattern) (part .at) (part .stop) forks base next (part .first) (part .places) (part .groups) ⌝ }
     requires { ⌜ tableRoom ≤ length (now table) ⌝ }
-    ensures { λ _. ⌜ SeveralLaid (now (pattern .entry)) (part .at) (part .stop) forks base next (part .first) (part .places) (now (table .entry)) (now (table .exit)) ⌝ }
+    ensures { λ _. ⌜ SeveralLaid (now (pattern .entry)) (part .at) (part .stop) forks base next (part .first) (part .places) (part .groups) (now (table .entry)) (now (table .exit)) ⌝ }
 {
     if forks {
         forked(pattern, table, part, base, next);
@@ -525,14 +530,15 @@ fn row(pattern: &[u8], table: &mut [u16], part: Part, forks: bool, base: usize, 
 
 // The records of an alternation, each but the last behind its fork.
 fn forked(pattern: &[u8], table: &mut [u16], part: Part, base: usize, next: usize)
-    requires { ⌜ Several (now pattern) (part .at) (part .stop) true base next (part .first) (part .places) ⌝ }
+    requires { ⌜ Several (now pattern) (part .at) (part .stop) true base next (part .first) (part .places) (part .groups) ⌝ }
     requires { ⌜ tableRoom ≤ length (now table) ⌝ }
-    ensures { λ _. ⌜ SeveralLaid (now (pattern .entry)) (part .at) (part .stop) true base next (part .first) (part .places) (now (table .entry)) (now (table .exit)) ⌝ }
+    ensures { λ _. ⌜ SeveralLaid (now (pattern .entry)) (part .at) (part .stop) true base next (part .first) (part .places) (part .groups) (now (table .entry)) (now (table .exit)) ⌝ }
 {
     let stop = part.stop;
     let mut at = part.at;
     let mut first = part.first;
     let mut left = part.places;
+    let mut inside = part.groups;
     let mut from = base;
     let mut end = record_end(pattern, at);
     while end != stop {
@@ -554,11 +560,13 @@ fn forked(pattern: &[u8], table: &mut [u16], part: Part, base: usize, next: usiz
             stop: end,
             first,
             places: mine,
+            groups: own.groups,
         };
         one(pattern, table, here, from + 1, next);
         at = end;
         first += own.groups;
         left = rest;
+        inside -= own.groups;
         from = second;
         end = record_end(pattern, at);
     }
@@ -567,20 +575,22 @@ fn forked(pattern: &[u8], table: &mut [u16], part: Part, base: usize, next: usiz
         stop,
         first,
         places: left,
+        groups: inside,
     };
     one(pattern, table, last, from, next);
 }
 
 // The records of a sequence, each followed by the next that has places.
 fn chained(pattern: &[u8], table: &mut [u16], part: Part, base: usize, next: usize)
-    requires { ⌜ Several (now pattern) (part .at) (part .stop) false base next (part .first) (part .places) ⌝ }
+    requires { ⌜ Several (now pattern) (part .at) (part .stop) false base next (part .first) (part .places) (part .groups) ⌝ }
     requires { ⌜ tableRoom ≤ length (now table) ⌝ }
-    ensures { λ _. ⌜ SeveralLaid (now (pattern .entry)) (part .at) (part .stop) false base next (part .first) (part .places) (now (table .entry)) (now (table .exit)) ⌝ }
+    ensures { λ _. ⌜ SeveralLaid (now (pattern .entry)) (part .at) (part .stop) false base next (part .first) (part .places) (part .groups) (now (table .entry)) (now (table .exit)) ⌝ }
 {
     let stop = part.stop;
     let mut at = part.at;
     let mut first = part.first;
     let mut left = part.places;
+    let mut inside = part.groups;
     let mut from = base;
     let mut end = record_end(pattern, at);
     while end != stop {
@@ -594,11 +604,13 @@ fn chained(pattern: &[u8], table: &mut [u16], part: Part, base: usize, next: usi
             stop: end,
             first,
             places: mine,
+            groups: own.groups,
         };
         one(pattern, table, here, from, out);
         at = end;
         first += own.groups;
         left = rest;
+        inside -= own.groups;
         from = second;
         end = record_end(pattern, at);
     }
@@ -607,6 +619,7 @@ fn chained(pattern: &[u8], table: &mut [u16], part: Part, base: usize, next: usi
         stop,
         first,
         places: left,
+        groups: inside,
     };
     one(pattern, table, last, from, next);
 }
@@ -638,6 +651,7 @@ pub fn build_match(pattern: &[u8], table: &mut [u16]) -> usize
         stop,
         first: 1,
         places: end,
+        groups: all.groups,
     };
     one(pattern, table, part, 0, end);
     put(table, end, PlaceKind::ACCEPT, 0, 0, 0);
@@ -661,6 +675,7 @@ pub fn build_search(pattern: &[u8], table: &mut [u16]) -> usize
         stop,
         first: 1,
         places,
+        groups: all.groups,
     };
     headed(pattern, table, part, PlaceKind::OPEN, 0, 0, 4, close);
     put(table, close, PlaceKind::CLOSE, second, 0, 0);

@@ -7,7 +7,7 @@ use native.Mathlib.Omega.{arith}
 use Rattle.places.specs.Asked.{Several}
 use Rattle.places.proofs.Entering.{at-least-one}
 use Rattle.places.proofs.Building.{head-fits, head-one}
-use Rattle.places.proofs.Records.{Along, repeat-counting, counts-right, inner-ask, passes-ask, repeat-passes, nothing-to-lay, stop-laid, set-ask, set-laid, group-one, group-two, group-laid, repeat-ask, repeat-laid, row-ask, row-laid, row-header, last-one, more-counting, more-few, fork-sum, fork-one, fork-rest, fork-fits, chain-sum, chain-one, chain-rest, along-all, along-chain, along-fork, along-last}
+use Rattle.places.proofs.Records.{Along, repeat-counting, counts-right, inner-ask, passes-ask, repeat-passes, nothing-to-lay, stop-laid, set-ask, set-laid, group-one, group-two, group-some, group-laid, repeat-ask, repeat-laid, row-ask, row-laid, row-header, last-one, more-counting, more-few, more-inside, fork-sum, fork-one, fork-rest, fork-fits, chain-sum, chain-one, chain-rest, along-all, along-chain, along-fork, along-last}
 use borrow.Fn.Kinds.{In}
 use borrow.Fn.PlainCycle.{Measures, is, falls, and}
 use Rattle.places.proofs.chained.Reads as chained
@@ -96,11 +96,11 @@ abbrev row-below : ℕ → In 2 row-kinds.ps
 row-below t = and 2 row-kinds.ps (falls 2 row-kinds.ps _<_ μ-row t) row.Pre
 
 abbrev chained-Inv-loop : chained-lts.InvT-loop
-chained-Inv-loop pattern table₀ base next stop at₀ first₀ left₀ from₀ end₀ table at first left from end =
-    Along pattern at₀ stop false from₀ next first₀ left₀ table₀ at end from first left table
+chained-Inv-loop pattern table₀ base next stop at₀ first₀ left₀ inside₀ from₀ end₀ table at first left inside from end =
+    Along pattern at₀ stop false from₀ next first₀ left₀ inside₀ table₀ at end from first left inside table
 
 abbrev chained-μ-loop : chained-lts.MeasureT-loop
-chained-μ-loop pattern table₀ base next stop at₀ first₀ left₀ from₀ end₀ table at first left from end = stop - at
+chained-μ-loop pattern table₀ base next stop at₀ first₀ left₀ inside₀ from₀ end₀ table at first left inside from end = stop - at
 
 abbrev chained-calls : ℕ → chained-lts.Claims
 chained-calls t = (record-end-reads.Asked, record-end-reads.Learnt, count-reads.Asked, count-reads.Learnt, entered-reads.Asked, entered-reads.Learnt, one-below t, one.Post)
@@ -156,25 +156,32 @@ chained-add-first t c =
     let the-count = c .before .before .before .before .before .before .count in
     omega (arith, more-few (the-loop .inv .end-is) (the-loop-test .taken) (the-count .ensures) (the-loop .inv .row))
 
+chained-sub-inside : (t : ℕ) → chained-lts.Need-sub-inside (chained-calls t) (chained-at t) chained.Post chained-Inv-loop chained-μ-loop
+chained-sub-inside t c =
+    let the-loop = c .before .before .before .before .before .before .before .before .before .loop in
+    let the-loop-test = c .before .before .before .before .before .before .before .before .loop-test in
+    let the-count = c .before .before .before .before .before .before .before .count in
+    more-inside (the-loop .inv .end-is) (the-loop-test .taken) (the-count .ensures) (the-loop .inv .row)
+
 chained-record-end-requires-2 : (t : ℕ) → chained-lts.Need-record-end-requires-2 (chained-calls t) (chained-at t) chained.Post chained-Inv-loop chained-μ-loop
 chained-record-end-requires-2 t c κs =
-    let the-loop = c .before .before .before .before .before .before .before .before .loop in
-    let the-loop-test = c .before .before .before .before .before .before .before .loop-test in
-    let the-count = c .before .before .before .before .before .before .count in
+    let the-loop = c .before .before .before .before .before .before .before .before .before .loop in
+    let the-loop-test = c .before .before .before .before .before .before .before .before .loop-test in
+    let the-count = c .before .before .before .before .before .before .before .count in
     (omega (arith, row-header (chain-rest (the-loop .inv .end-is) (the-loop-test .taken) (the-count .ensures) (the-loop .inv .row)), the-loop .inv .row .ends), the-loop .inv .row .short)
 
 chained-loop-less : (t : ℕ) → chained-lts.Need-loop-less (chained-calls t) (chained-at t) chained.Post chained-Inv-loop chained-μ-loop
 chained-loop-less t c =
-    let the-loop = c .before .before .before .before .before .before .before .before .before .loop in
+    let the-loop = c .before .before .before .before .before .before .before .before .before .before .loop in
     omega (arith, the-loop .inv .end-is, row-header (the-loop .inv .row))
 
 chained-loop-again : (t : ℕ) → chained-lts.Need-loop-again (chained-calls t) (chained-at t) chained.Post chained-Inv-loop chained-μ-loop
 chained-loop-again t c =
-    let the-loop = c .before .before .before .before .before .before .before .before .before .loop in
-    let the-loop-test = c .before .before .before .before .before .before .before .before .loop-test in
-    let the-count = c .before .before .before .before .before .before .before .count in
-    let the-entered = c .before .before .before .before .before .before .entered in
-    let the-one = c .before .before .before .before .one in
+    let the-loop = c .before .before .before .before .before .before .before .before .before .before .loop in
+    let the-loop-test = c .before .before .before .before .before .before .before .before .before .loop-test in
+    let the-count = c .before .before .before .before .before .before .before .before .count in
+    let the-entered = c .before .before .before .before .before .before .before .entered in
+    let the-one = c .before .before .before .before .before .one in
     let the-record-end2 = c .record-end2 in
     along-chain (the-loop .inv) (the-loop-test .taken) (the-count .ensures) (the-entered .ensures) (the-one .ensures) (the-record-end2 .ensures)
 
@@ -199,11 +206,11 @@ chained-returns t c =
     along-last (the-loop .inv) (the-loop-test .left) (the-one2 .ensures)
 
 abbrev forked-Inv-loop : forked-lts.InvT-loop
-forked-Inv-loop pattern table₀ base next stop at₀ first₀ left₀ from₀ end₀ table at first left from end =
-    Along pattern at₀ stop true from₀ next first₀ left₀ table₀ at end from first left table
+forked-Inv-loop pattern table₀ base next stop at₀ first₀ left₀ inside₀ from₀ end₀ table at first left inside from end =
+    Along pattern at₀ stop true from₀ next first₀ left₀ inside₀ table₀ at end from first left inside table
 
 abbrev forked-μ-loop : forked-lts.MeasureT-loop
-forked-μ-loop pattern table₀ base next stop at₀ first₀ left₀ from₀ end₀ table at first left from end = stop - at
+forked-μ-loop pattern table₀ base next stop at₀ first₀ left₀ inside₀ from₀ end₀ table at first left inside from end = stop - at
 
 abbrev forked-calls : ℕ → forked-lts.Claims
 forked-calls t = (record-end-reads.Asked, record-end-reads.Learnt, count-reads.Asked, count-reads.Learnt, entered-reads.Asked, entered-reads.Learnt, put-reads.Asked, put-reads.Learnt, one-below t, one.Post)
@@ -296,27 +303,34 @@ forked-add-first t c =
     let the-count = c .before .before .before .before .before .before .before .before .before .before .before .count in
     omega (arith, more-few (the-loop .inv .end-is) (the-loop-test .taken) (the-count .ensures) (the-loop .inv .row))
 
+forked-sub-inside : (t : ℕ) → forked-lts.Need-sub-inside (forked-calls t) (forked-at t) forked.Post forked-Inv-loop forked-μ-loop
+forked-sub-inside t c =
+    let the-loop = c .before .before .before .before .before .before .before .before .before .before .before .before .before .before .loop in
+    let the-loop-test = c .before .before .before .before .before .before .before .before .before .before .before .before .before .loop-test in
+    let the-count = c .before .before .before .before .before .before .before .before .before .before .before .before .count in
+    more-inside (the-loop .inv .end-is) (the-loop-test .taken) (the-count .ensures) (the-loop .inv .row)
+
 forked-record-end-requires-2 : (t : ℕ) → forked-lts.Need-record-end-requires-2 (forked-calls t) (forked-at t) forked.Post forked-Inv-loop forked-μ-loop
 forked-record-end-requires-2 t c κs =
-    let the-loop = c .before .before .before .before .before .before .before .before .before .before .before .before .before .loop in
-    let the-loop-test = c .before .before .before .before .before .before .before .before .before .before .before .before .loop-test in
-    let the-count = c .before .before .before .before .before .before .before .before .before .before .before .count in
+    let the-loop = c .before .before .before .before .before .before .before .before .before .before .before .before .before .before .loop in
+    let the-loop-test = c .before .before .before .before .before .before .before .before .before .before .before .before .before .loop-test in
+    let the-count = c .before .before .before .before .before .before .before .before .before .before .before .before .count in
     (omega (arith, row-header (fork-rest (the-loop .inv .end-is) (the-loop-test .taken) (the-count .ensures) (the-loop .inv .row)), the-loop .inv .row .ends), the-loop .inv .row .short)
 
 forked-loop-less : (t : ℕ) → forked-lts.Need-loop-less (forked-calls t) (forked-at t) forked.Post forked-Inv-loop forked-μ-loop
 forked-loop-less t c =
-    let the-loop = c .before .before .before .before .before .before .before .before .before .before .before .before .before .before .loop in
+    let the-loop = c .before .before .before .before .before .before .before .before .before .before .before .before .before .before .before .loop in
     omega (arith, the-loop .inv .end-is, row-header (the-loop .inv .row))
 
 forked-loop-again : (t : ℕ) → forked-lts.Need-loop-again (forked-calls t) (forked-at t) forked.Post forked-Inv-loop forked-μ-loop
 forked-loop-again t c =
-    let the-loop = c .before .before .before .before .before .before .before .before .before .before .before .before .before .before .loop in
-    let the-loop-test = c .before .before .before .before .before .before .before .before .before .before .before .before .before .loop-test in
-    let the-count = c .before .before .before .before .before .before .before .before .before .before .before .before .count in
-    let the-entered = c .before .before .before .before .before .before .before .before .before .before .before .entered in
-    let the-entered2 = c .before .before .before .before .before .before .before .before .before .entered2 in
-    let the-put = c .before .before .before .before .before .before .before .before .put in
-    let the-one = c .before .before .before .before .one in
+    let the-loop = c .before .before .before .before .before .before .before .before .before .before .before .before .before .before .before .loop in
+    let the-loop-test = c .before .before .before .before .before .before .before .before .before .before .before .before .before .before .loop-test in
+    let the-count = c .before .before .before .before .before .before .before .before .before .before .before .before .before .count in
+    let the-entered = c .before .before .before .before .before .before .before .before .before .before .before .before .entered in
+    let the-entered2 = c .before .before .before .before .before .before .before .before .before .before .entered2 in
+    let the-put = c .before .before .before .before .before .before .before .before .before .put in
+    let the-one = c .before .before .before .before .before .one in
     let the-record-end2 = c .record-end2 in
     along-fork (the-loop .inv) (the-loop-test .taken) (the-count .ensures) (the-entered .ensures) (the-entered2 .ensures) (the-put .ensures) (the-one .ensures) (the-record-end2 .ensures)
 
@@ -435,17 +449,24 @@ one-add-close-2 t c =
     let the-if4 = c .if4 in
     omega (arith, (the-pre .1 .0) .room, group-two (the-pre .1 .0) (the-number-at .ensures .0) (the-if4 .taken))
 
-one-add-t26 : (t : ℕ) → one-lts.Need-add-t26 (one-calls t) (one-at t) one.Post
-one-add-t26 t c =
+one-add-t27 : (t : ℕ) → one-lts.Need-add-t27 (one-calls t) (one-at t) one.Post
+one-add-t27 t c =
     let the-pre = c .before .before .before .before .before .before .before .pre in
     omega (arith, (the-pre .1 .0) .inside .few)
 
-one-sub-t27 : (t : ℕ) → one-lts.Need-sub-t27 (one-calls t) (one-at t) one.Post
-one-sub-t27 t c =
+one-sub-t28 : (t : ℕ) → one-lts.Need-sub-t28 (one-calls t) (one-at t) one.Post
+one-sub-t28 t c =
     let the-pre = c .before .before .before .before .before .before .before .pre in
     let the-number-at = c .before .before .before .before .number-at in
     let the-if4 = c .if4 in
     group-two (the-pre .1 .0) (the-number-at .ensures .0) (the-if4 .taken)
+
+one-sub-t29 : (t : ℕ) → one-lts.Need-sub-t29 (one-calls t) (one-at t) one.Post
+one-sub-t29 t c =
+    let the-pre = c .before .before .before .before .before .before .before .pre in
+    let the-number-at = c .before .before .before .before .number-at in
+    let the-if4 = c .if4 in
+    group-some (the-pre .1 .0) (the-number-at .ensures .0) (the-if4 .taken)
 
 one-headed-requires : (t : ℕ) → one-lts.Need-headed-requires (one-calls t) (one-at t) one.Post
 one-headed-requires t c κs =
@@ -671,14 +692,14 @@ row-forked-requires t c κs =
     let the-pre = c .before .before .before .before .pre in
     let the-args = c .before .before .before .before .args in
     let the-if1 = c .before .if1 in
-    (omega (arith, the-pre .0), (subst (λ (b : Bool). Several (the-args .pattern .now) (the-args .part .at) (the-args .part .stop) b (the-args .base) (the-args .next) (the-args .part .first) (the-args .part .places)) (the-if1 .taken) (the-pre .1 .0), the-pre .1 .1))
+    (omega (arith, the-pre .0), (subst (λ (b : Bool). Several (the-args .pattern .now) (the-args .part .at) (the-args .part .stop) b (the-args .base) (the-args .next) (the-args .part .first) (the-args .part .places) (the-args .part .groups)) (the-if1 .taken) (the-pre .1 .0), the-pre .1 .1))
 
 row-chained-requires : (t : ℕ) → row-lts.Need-chained-requires (row-calls t) (row-at t) row.Post
 row-chained-requires t c κs =
     let the-pre = c .before .before .before .before .pre in
     let the-args = c .before .before .before .before .args in
     let the-if1 = c .before .if1 in
-    (omega (arith, the-pre .0), (subst (λ (b : Bool). Several (the-args .pattern .now) (the-args .part .at) (the-args .part .stop) b (the-args .base) (the-args .next) (the-args .part .first) (the-args .part .places)) (the-if1 .left) (the-pre .1 .0), the-pre .1 .1))
+    (omega (arith, the-pre .0), (subst (λ (b : Bool). Several (the-args .pattern .now) (the-args .part .at) (the-args .part .stop) b (the-args .base) (the-args .next) (the-args .part .first) (the-args .part .places) (the-args .part .groups)) (the-if1 .left) (the-pre .1 .0), the-pre .1 .1))
 
 row-same-length : (t : ℕ) → row-lts.Need-same-length (row-calls t) (row-at t) row.Post
 row-same-length t c =
@@ -726,6 +747,7 @@ pub +chained+forked+headed+one+repeated+row-spec : {M : Type 1} → statement M
     (chained-entered-requires t)
     (chained-one-requires t)
     (chained-add-first t)
+    (chained-sub-inside t)
     (chained-record-end-requires-2 t)
     (chained-loop-less t)
     (chained-loop-again t)
@@ -762,6 +784,7 @@ pub +chained+forked+headed+one+repeated+row-spec : {M : Type 1} → statement M
     (forked-add-one t)
     (forked-one-requires t)
     (forked-add-first t)
+    (forked-sub-inside t)
     (forked-record-end-requires-2 t)
     (forked-loop-less t)
     (forked-loop-again t)
@@ -809,8 +832,9 @@ pub +chained+forked+headed+one+repeated+row-spec : {M : Type 1} → statement M
     (one-add-close t)
     (one-sub-close t)
     (one-add-close-2 t)
-    (one-add-t26 t)
-    (one-sub-t27 t)
+    (one-add-t27 t)
+    (one-sub-t28 t)
+    (one-sub-t29 t)
     (one-headed-requires t)
     (one-put-requires-2 t)
     (one-repeated-requires t)

@@ -1,7 +1,7 @@
 -- `build_match`: the pattern is one record, laid from 0 on, and the accepting place follows.
 use native.Mathlib.Omega.{arith}
 use Rattle.places.proofs.Walked.{pattern-stands}
-use Rattle.places.proofs.Finished.{whole-counting, whole-places, whole-one, match-built}
+use Rattle.places.proofs.Finished.{whole-counting, whole-places, whole-groups, whole-one, match-built}
 use borrow.Author.Needs.{needs}
 use Rattle.places.proofs.build_match.Statement.{statement}
 use Rattle.places.proofs.build_match.Tie as tie
@@ -17,7 +17,7 @@ one-requires c κs =
     let the-args = c .before .before .before .before .args in
     let the-pre = c .before .before .before .before .pre in
     let the-count = c .before .count in
-    let w = pattern-stands (the-args .pattern .now) (the-pre .0 .tree) (the-pre .0 .found) in let p = whole-places (the-count .ensures) w in (whole-one 0 (the-count .result .places) w p (omega (arith, w .few-places)) (omega (arith, w .few-places)), the-pre .1)
+    let w = pattern-stands (the-args .pattern .now) (the-pre .0 .tree) (the-pre .0 .found) in let p = whole-places (the-count .ensures) w in (whole-one 0 (the-count .result .places) w p (whole-groups (the-count .ensures) w) (omega (arith, w .few-places)) (omega (arith, w .few-places)), the-pre .1)
 
 put-requires : tie.Need-put-requires
 put-requires c κs = search needs
@@ -38,7 +38,7 @@ returns c =
       count-is = λ e found. omega (arith, whole-places (the-count .ensures) (pattern-stands (the-args .pattern .now) e found));
       built = λ e found.
           let w = pattern-stands (the-args .pattern .now) e found in
-          match-built w (whole-places (the-count .ensures) w) (the-one .ensures) (the-put .ensures);
+          match-built w (whole-places (the-count .ensures) w) (whole-groups (the-count .ensures) w) (the-one .ensures) (the-put .ensures);
     }
 
 pub build-match-spec : {M : Type 1} → statement M

@@ -29,7 +29,7 @@ headed-requires c κs =
     let the-pre = c .before .before .before .before .before .before .before .before .pre in
     let the-count = c .before .before .before .before .before .count in
     let the-any-star = c .before .before .before .any-star in
-    let w = pattern-stands (the-args .pattern .now) (the-pre .0 .tree) (the-pre .0 .found) in let p = whole-places (the-count .ensures) w in (whole-one 5 (5 + the-count .result .places) w p (omega (arith, w .few-places)) (omega (arith, w .few-places)), (record { no-set = omega arith; a-small = omega arith; n-small = omega arith }, omega (arith, the-any-star .ensures .kept .same-length, the-pre .1)))
+    let w = pattern-stands (the-args .pattern .now) (the-pre .0 .tree) (the-pre .0 .found) in let p = whole-places (the-count .ensures) w in (whole-one 5 (5 + the-count .result .places) w p (whole-groups (the-count .ensures) w) (omega (arith, w .few-places)) (omega (arith, w .few-places)), (record { no-set = omega arith; a-small = omega arith; n-small = omega arith }, omega (arith, the-any-star .ensures .kept .same-length, the-pre .1)))
 
 put-requires : tie.Need-put-requires
 put-requires c κs = search needs
