@@ -3,6 +3,7 @@ use Prim.Native.Nat.{ℕ, zero, suc, _+_, _-_, _*_, _/_, _≤_, _<_}
 use mathlib.Core.Path.{_≡_, refl, sym, ap, subst, _∙_}
 use mathlib.Core.Bool.{Bool, true, false, cond}
 use mathlib.Core.List.{List, [], _∷_}
+use native.Mathlib.Nat.{mul-comm, one-mul, mul-one, mul-add, add-mul, mul-div-cancel-left}
 use native.Mathlib.Numerals.{add-one}
 use native.Mathlib.Omega.{arith}
 use lib.Dec.{eqb}
@@ -18,23 +19,12 @@ use Rattle.paper.proofs.RepeatBody.{mode-of-number}
 use Rattle.pattern.specs.Walk.{placesIn, groupsIn, optionalPasses, passPlaces}
 use Rattle.places.specs.Laid.{Holds, Kept, Lays, entryOf}
 use Rattle.places.specs.Standing.{Stands, Row, UpperRight, rowPlaces, rowCore}
-use Rattle.places.specs.Asked.{Fitting, Put, Counting, Counted, Ranged, RangedLaid, One, OneLaid, HeadLaid, Several, SeveralLaid, CountsRight, passCore, innerStart, inPlace, Repeating, PassesLaid, Repeat, RepeatLaid}
+use Rattle.places.specs.Asked.{Fitting, Put, Counting, Counted, Ranged, RangedLaid, One, OneLaid, HeadLaid, Several, SeveralLaid, CountsRight, passCore, innerStart, inPlace, Passed, PassedInside, Repeating, PassesLaid, Repeat, RepeatLaid}
 use Rattle.places.proofs.Laying.{holds-kept, plain-holds, put-holds, lays-kept, lays-none, kept-none, kept-both}
 use Rattle.places.proofs.Sizes.{row-size, optional-maybes}
 use Rattle.places.proofs.Entering.{at-least-one, entry-small, passes-none, first-inner}
-use Rattle.places.proofs.Adding.{upper-named, repeat-more, row-long}
+use Rattle.places.proofs.Adding.{upper-named, row-long}
 use Rattle.places.proofs.Views.{RowView, nothing-view, set-view, group-view, repeat-view, row-view}
-
--- `repeated`: the record inside is counted
-abbrev pub repeat-counting : {bs : List ℕ} {start stop base next first : ℕ} → Repeat bs start stop base next first → Counting bs (start + repeatHead) stop
-repeat-counting m =
-    record {
-      records = m .tree ∷ [];
-      stand = (m .inside .stand, m .inside .end-is);
-      ends = m .inside .ends;
-      short = m .inside .short;
-      few = omega (arith, m .inside .few);
-    }
 
 -- with an upper end and without: the places of the passes are the repeat's
 passes-places : (least : ℕ) (upper : Upper) (p : ℕ) → repeatPlaces least upper p ≡ passPlaces least (optionalPasses least upper) p
@@ -52,10 +42,34 @@ optional-once : (endless : Bool) (least most : ℕ) → endless ≡ true → opt
 optional-once true least most is = omega arith
 optional-once false least most is = let z : _≡_ {A = ℕ} 0 1 = cc in absurd (omega arith)
 
+-- `inner_places`: the places of passes, without those of their own
+passes-inside : (least may p : ℕ) → passPlaces least may p ≡ (least + may) * p + least + 3 * may
+passes-inside least may p = omega (arith, mul-add least 1 p, mul-one least, mul-add may 3 p, mul-comm may 3, add-mul least may p)
+
+-- one pass has what is left, several share it
+pub inside-once : {all least may : ℕ} → least + may ≡ 1 → PassedInside all least may (all - least - 3 * may)
+inside-once {all} {least} {may} once =
+    record {
+      same = λ m.
+          let e : (least + may) * m .inside ≡ m .inside = ap (λ (k : ℕ). k * m .inside) once ∙ one-mul (m .inside) in
+          omega (arith, m .all-are, passes-inside least may (m .inside));
+    }
+
+pub inside-shared : {all least may : ℕ} → PassedInside all least may ((all - least - 3 * may) / (least + may))
+inside-shared {all} {least} {may} =
+    record {
+      same = λ m.
+          let e : all - least - 3 * may ≡ (least + may) * m .inside = omega (arith, m .all-are, passes-inside least may (m .inside)) in
+          ap (λ (k : ℕ). k / (least + may)) e ∙ mul-div-cancel-left (m .inside) (at-least-one (m .some));
+    }
+
+-- so many places are the passes' own
+pub passes-own : {all least may : ℕ} → Passed all least may → least + 3 * may ≤ all
+passes-own {all} {least} {may} m = omega (arith, m .all-are, passes-inside least may (m .inside))
+
 -- the numbers that are read are the tree's
-module _ {bs : List ℕ} {start stop base next first least most mode p g k : ℕ} (m : Repeat bs start stop base next first)
-    (el : least ≡ numberAt bs start) (em : most ≡ numberAt bs (start + 2)) (ed : mode ≡ numberAt bs (start + 4))
-    (c : Counted bs (start + repeatHead) stop p g k) where
+module _ {bs : List ℕ} {start stop base next first n g least most mode : ℕ} (m : Repeat bs start stop base next first n g)
+    (el : least ≡ numberAt bs start) (em : most ≡ numberAt bs (start + 2)) (ed : mode ≡ numberAt bs (start + 4)) where
   least-is : least ≡ m .least
   least-is = el ∙ m .numbers .least-is
 
@@ -64,14 +78,6 @@ module _ {bs : List ℕ} {start stop base next first least most mode p g k : ℕ
 
   mode-is : modeOf mode ≡ m .mode
   mode-is = ap modeOf (ed ∙ m .numbers .mode-is) ∙ mode-of-number (m .mode)
-
-  -- the groups inside
-  pub groups-is : g ≡ groups (m .tree)
-  groups-is = omega (arith, c .sums (repeat-counting m) .groups-are)
-
-  -- the places inside
-  pub places-is : p ≡ places (m .tree)
-  places-is = omega (arith, c .sums (repeat-counting m) .places-are (omega (arith, m .small)))
 
   bounded : (u : Upper) → most ≡ upperNumber u → UpperRight (m .least) u → (most ≡ 65535 → ⊥) → (m .least ≤ most) × (most ≤ 255)
   bounded (upTo k) e right not = (omega arith, omega arith)
@@ -88,16 +94,34 @@ module _ {bs : List ℕ} {start stop base next first least most mode p g k : ℕ
   counts-right = record { small = omega (arith, least-is, m .numbers .small); right = bounded-counts }
 
   -- the places of the passes are the repeat's
-  pub total : repeatPlaces (m .least) (m .upper) (places (m .tree)) ≡ passPlaces least (optionalPasses least (upperOf most)) p
-  total = let e : repeatPlaces (m .least) (m .upper) (places (m .tree)) ≡ repeatPlaces least (upperOf most) p = rw (least-is, upper-is, places-is) in e ∙ passes-places least (upperOf most) p
+  pub total : {may : ℕ} → may ≡ optionalPasses least (upperOf most) → n ≡ passPlaces least may (places (m .tree))
+  total {may} ey =
+      let e : repeatPlaces (m .least) (m .upper) (places (m .tree)) ≡ repeatPlaces least (upperOf most) (places (m .tree)) = rw (least-is, upper-is) in
+      m .places-are ∙ e ∙ passes-places least (upperOf most) (places (m .tree)) ∙ ap (λ (k : ℕ). passPlaces least k (places (m .tree))) (sym ey)
 
   -- there is a pass
-  some-pass : least + optionalPasses least (upperOf most) ≡ 0 → ⊥
-  some-pass none = m .some (total ∙ passes-none least (optionalPasses least (upperOf most)) p none)
+  pub some-pass : {may : ℕ} → may ≡ optionalPasses least (upperOf most) → least + may ≡ 0 → ⊥
+  some-pass {may} ey none = m .some (total ey ∙ passes-none least may (places (m .tree)) none)
+
+  -- what the places inside are asked by
+  abbrev pub passed-ask : {may : ℕ} → may ≡ optionalPasses least (upperOf most) → Passed n least may
+  passed-ask ey = record { inside = places (m .tree); all-are = total ey; some = some-pass ey; small = m .small }
+
+-- the places inside are the tree's
+module _ {bs : List ℕ} {start stop base next first n g least most mode may p : ℕ} (m : Repeat bs start stop base next first n g)
+    (el : least ≡ numberAt bs start) (em : most ≡ numberAt bs (start + 2)) (ed : mode ≡ numberAt bs (start + 4))
+    (ey : may ≡ optionalPasses least (upperOf most)) (c : PassedInside n least may p) where
+  pub places-is : p ≡ places (m .tree)
+  places-is = c .same (passed-ask m el em ed ey)
+
+  whole : n ≡ passPlaces least may p
+  whole = total m el em ed ey ∙ ap (λ (k : ℕ). passPlaces least may k) (sym places-is)
 
   -- where the inner part of the first pass stands
-  pub inner-room : (base ≤ innerStart least base) × (innerStart least base + p ≤ base + passPlaces least (optionalPasses least (upperOf most)) p)
-  inner-room = first-inner least (optionalPasses least (upperOf most)) base p some-pass
+  pub inner-room : (base ≤ innerStart least base) × (innerStart least base + p ≤ base + n)
+  inner-room =
+      let w = first-inner least may base p (some-pass m el em ed ey) in
+      (w .0, omega (arith, w .1, whole))
 
   -- what laying it asks for
   abbrev pub inner-ask : {model : ℕ} → model ≡ innerStart least base → One bs (start + repeatHead) stop model (model + p) first p g
@@ -106,57 +130,58 @@ module _ {bs : List ℕ} {start stop base next first least most mode p g k : ℕ
         tree = m .tree;
         inside = m .inside;
         places-are = places-is;
-        groups-are = groups-is;
-        small = omega (arith, m .small, places-is);
-        room = omega (arith, at, inner-room, m .room, total);
-        follows = omega (arith, at, inner-room, m .room, total);
+        groups-are = m .groups-are;
+        small = omega (arith, inner-room, m .small);
+        room = omega (arith, at, inner-room, m .room);
+        follows = omega (arith, at, inner-room, m .room);
       }
 
   -- what the passes are asked for
-  pub passes-ask : {model may : ℕ} → model ≡ innerStart least base → may ≡ optionalPasses least (upperOf most)
-      → Repeating model p first g least may (eqb most 65535) base next
-  passes-ask {model} at em =
-      subst (λ (k : ℕ). Repeating model p first g least k (eqb most 65535) base next) (sym em)
-      (record {
+  pub passes-ask : {model : ℕ} → model ≡ innerStart least base → Repeating model p first g least may (eqb most 65535) base next
+  passes-ask {model} at =
+      record {
         first-small = omega (arith, m .inside .few);
-        groups-small = omega (arith, m .inside .few, groups-is);
-        once = optional-once (eqb most 65535) least most;
-        room = omega (arith, m .room, total);
+        groups-small = omega (arith, m .inside .few, m .groups-are);
+        once = λ is. omega (arith, ey, optional-once (eqb most 65535) least most is);
+        room = omega (arith, m .room, whole);
         follows = m .follows;
         stands = inPlace at;
-      })
+      }
 
   -- the tree written out, by the numbers that were read
   written : writtenOut (repeat (m .least) (m .upper) (m .mode) (m .tree)) first
-      ≡ passCore least (eqb most 65535) (optionalPasses least (upperOf most)) (modeOf mode) first g (writtenOut (m .tree) first)
+      ≡ passCore least (eqb most 65535) may (modeOf mode) first g (writtenOut (m .tree) first)
   written =
       let e : writtenOut (repeat (m .least) (m .upper) (m .mode) (m .tree)) first
       ≡ musts least first g (writtenOut (m .tree) first) (optionals least (upperOf most) (modeOf mode) first g (writtenOut (m .tree) first)) =
-      rw (least-is, upper-is, mode-is, groups-is) in
+      rw (least-is m el em ed, upper-is m el em ed, mode-is m el em ed, m .groups-are) in
       e ∙ passes-core (eqb most 65535) least most (modeOf mode) first g (writtenOut (m .tree) first)
+      ∙ ap (λ (k : ℕ). passCore least (eqb most 65535) k (modeOf mode) first g (writtenOut (m .tree) first)) (sym ey)
 
-  -- the inner part and the passes lay the repeat
-  passes-lay : {model may : ℕ} {t t1 t2 : List ℕ} → model ≡ innerStart least base → may ≡ optionalPasses least (upperOf most)
+  -- the inner part and the passes keep what stands around the repeat
+  passes-keep : {model : ℕ} {t t1 t2 : List ℕ} → model ≡ innerStart least base
       → OneLaid bs (start + repeatHead) stop model (model + p) first p g t t1 → PassesLaid model p first g least may (eqb most 65535) mode base next t1 t2
-      → Kept base (base + repeatPlaces (m .least) (m .upper) (places (m .tree))) t t2
-      × Lays t2 bs (writtenOut (repeat (m .least) (m .upper) (m .mode) (m .tree)) first) base next
-  passes-lay {model} {may} {t} {t1} {t2} at em inner r =
-      let ek : passPlaces least may p ≡ repeatPlaces (m .least) (m .upper) (places (m .tree)) = ap (λ (k : ℕ). passPlaces least k p) em ∙ sym total in
-      let e = writtenOut (m .tree) first in (
-        kept-both base (base + repeatPlaces (m .least) (m .upper) (places (m .tree))) (inner .kept) (r .kept) (omega (arith, at, inner-room))
-            (omega (arith, at, inner-room, total)) (omega arith) (omega arith),
-        subst (λ (c : Core). Lays t2 bs c base next)
-            (sym (written ∙ ap (λ (k : ℕ). passCore least (eqb most 65535) k (modeOf mode) first g e) (sym em)))
-            (r .laid bs e (places-is ∙ sym (size-written (m .tree) first)) (λ more. inner .laid (inner-ask at))),
-      )
+      → Kept base (base + n) t t2
+  passes-keep at inner r =
+      kept-both base (base + n) (inner .kept) (r .kept) (omega (arith, at, inner-room)) (omega (arith, at, inner-room)) (omega arith) (omega (arith, whole))
+
+  -- and lay the repeat
+  passes-lay : {model : ℕ} {t t1 t2 : List ℕ} → model ≡ innerStart least base
+      → OneLaid bs (start + repeatHead) stop model (model + p) first p g t t1 → PassesLaid model p first g least may (eqb most 65535) mode base next t1 t2
+      → Lays t2 bs (writtenOut (repeat (m .least) (m .upper) (m .mode) (m .tree)) first) base next
+  passes-lay {model} {t} {t1} {t2} at inner r =
+      let e = writtenOut (m .tree) first in
+      subst (λ (c : Core). Lays t2 bs c base next) (sym written)
+      (r .laid bs e (places-is ∙ sym (size-written (m .tree) first)) (λ more. inner .laid (inner-ask at)))
 
 -- so they do for every tree that meets what was asked
-pub repeat-passes : {bs : List ℕ} {start stop base next first least most mode p g k model may : ℕ} {t t1 t2 : List ℕ} → least ≡ numberAt bs start
-    → most ≡ numberAt bs (start + 2) → mode ≡ numberAt bs (start + 4) → Counted bs (start + repeatHead) stop p g k → model ≡ innerStart least base
-    → may ≡ optionalPasses least (upperOf most) → OneLaid bs (start + repeatHead) stop model (model + p) first p g t t1
-    → PassesLaid model p first g least may (eqb most 65535) mode base next t1 t2 → RepeatLaid bs start stop base next first t t2
-repeat-passes el em ed c at ek inner r =
-    record { kept = λ m. passes-lay m el em ed c at ek inner r .0; laid = λ m. passes-lay m el em ed c at ek inner r .1 }
+pub repeat-passes : {bs : List ℕ} {start stop base next first n g least most mode may p model : ℕ} {t t1 t2 : List ℕ}
+    → Repeat bs start stop base next first n g → least ≡ numberAt bs start → most ≡ numberAt bs (start + 2) → mode ≡ numberAt bs (start + 4)
+    → may ≡ optionalPasses least (upperOf most) → PassedInside n least may p → model ≡ innerStart least base
+    → OneLaid bs (start + repeatHead) stop model (model + p) first p g t t1
+    → PassesLaid model p first g least may (eqb most 65535) mode base next t1 t2 → RepeatLaid bs start stop base next first n g t t2
+repeat-passes m0 el em ed ey c at inner r =
+    record { kept = passes-keep m0 el em ed ey c at inner r; laid = λ m. passes-lay m el em ed ey c at inner r }
 
 -- `one` without places
 pub nothing-to-lay : {bs : List ℕ} {at stop base next first n gs : ℕ} {t : List ℕ} → n ≡ 0 → OneLaid bs at stop base next first n gs t t
@@ -316,10 +341,9 @@ group-laid {bs} {at} {stop} {base} {next} {first} {n} {t2 = t2} m0 ek three h pu
 
 -- a repeat
 abbrev pub repeat-ask : {bs : List ℕ} {at stop base next first n gs kind : ℕ} → One bs at stop base next first n gs → (n ≡ 0 → ⊥) → kind ≡ kindAt bs at
-    → kind ≡ 6 → Repeat bs (at + 4) stop base next first
-repeat-ask {bs} {at} {n = n} m some ek six =
+    → kind ≡ 6 → Repeat bs (at + 4) stop base next first n gs
+repeat-ask {bs} {at} m some ek six =
     let v = repeat-view (m .tree) bs at (m .inside .stand) (sym ek ∙ six) in
-    let e : places (m .tree) ≡ repeatPlaces (v .least) (v .upper) (places (v .inner)) = ap places (v .is) in
     let f : groups (m .tree) ≡ groups (v .inner) = ap groups (v .is) in
     record {
       least = v .least;
@@ -334,23 +358,20 @@ repeat-ask {bs} {at} {n = n} m some ek six =
         short = m .inside .short;
         few = omega (arith, m .inside .few);
       };
-      small = omega (arith, m .small, m .places-are, repeat-more (v .least) (v .upper) (places (v .inner)) (v .numbers .right) (positive some (m .places-are ∙ e)));
-      some = λ none. some (m .places-are ∙ e ∙ none);
-      room = omega (arith, m .room, m .places-are);
+      places-are = m .places-are ∙ ap places (v .is);
+      groups-are = m .groups-are ∙ f;
+      some = some;
+      small = m .small;
+      room = m .room;
       follows = m .follows;
     }
-  where
-    positive : {a b : ℕ} → (a ≡ 0 → ⊥) → a ≡ b → 0 < b
-    positive {b = zero} not e = absurd (not e)
-    positive {b = suc b} not e = omega arith
 
 -- a repeat is laid by its passes
-pub repeat-laid : {bs : List ℕ} {at stop base next first n gs kind : ℕ} {t t' : List ℕ} → One bs at stop base next first n gs → (n ≡ 0 → ⊥)
-    → kind ≡ kindAt bs at → kind ≡ 6 → RepeatLaid bs (at + 4) stop base next first t t' → OneLaid bs at stop base next first n gs t t'
-repeat-laid {bs} {at} {stop} {base} {next} {first} {n} {t = t} {t' = t'} m0 some ek six r =
-    let v0 = repeat-view (m0 .tree) bs at (m0 .inside .stand) (sym ek ∙ six) in
+pub repeat-laid : {bs : List ℕ} {at stop base next first n gs kind : ℕ} {t t' : List ℕ} → (n ≡ 0 → ⊥) → kind ≡ kindAt bs at → kind ≡ 6
+    → RepeatLaid bs (at + 4) stop base next first n gs t t' → OneLaid bs at stop base next first n gs t t'
+repeat-laid {bs} {at} {base = base} {next = next} {first = first} {t' = t'} some ek six r =
     record {
-      kept = subst (λ (k : ℕ). Kept base (base + k) t t') (sym (m0 .places-are ∙ ap places (v0 .is))) (r .kept (repeat-ask m0 some ek six));
+      kept = r .kept;
       laid = λ m. as-tree t' bs first base next (repeat-view (m .tree) bs at (m .inside .stand) (sym ek ∙ six) .is) (r .laid (repeat-ask m some ek six));
     }
 

@@ -255,22 +255,34 @@ pub record PassesLeft (model p first g least may : ℕ) (endless : Bool) (mode b
   pub all : (after : List ℕ) → PassesLaid model p first g must left endless mode from next now after
       → PassesLaid model p first g least may endless mode base next before after
 
--- `repeated`: a repeat's three numbers, and what it repeats
-pub record Repeat (bs : List ℕ) (start stop base next first : ℕ) : Type 0 where
+-- `inner_places`: the places of some passes, and there is a pass
+pub record Passed (all least may : ℕ) : Type 0 where
+  pub inside : ℕ
+  pub all-are : all ≡ passPlaces least may inside
+  pub some : least + may ≡ 0 → ⊥
+  pub small : all ≤ patternPlaces
+
+pub record PassedInside (all least may r : ℕ) : Type 0 where
+  pub same : (m : Passed all least may) → r ≡ m .inside
+
+-- `repeated`: a repeat's three numbers, what it repeats, and its places and groups
+pub record Repeat (bs : List ℕ) (start stop base next first n g : ℕ) : Type 0 where
   pub least : ℕ
   pub upper : Upper
   pub mode : Mode
   pub tree : Pattern
   pub numbers : Passes bs start least upper mode
   pub inside : Inside bs (start + repeatHead) stop first tree
-  pub small : places tree ≤ patternPlaces
-  pub some : repeatPlaces least upper (places tree) ≡ 0 → ⊥
-  pub room : base + repeatPlaces least upper (places tree) ≤ mostPlaces
+  pub places-are : n ≡ repeatPlaces least upper (places tree)
+  pub groups-are : g ≡ groups tree
+  pub some : n ≡ 0 → ⊥
+  pub small : n ≤ patternPlaces
+  pub room : base + n ≤ mostPlaces
   pub follows : next ≤ mostPlaces
 
-pub record RepeatLaid (bs : List ℕ) (start stop base next first : ℕ) (before after : List ℕ) : Type 0 where
-  pub kept : (m : Repeat bs start stop base next first) → Kept base (base + repeatPlaces (m .least) (m .upper) (places (m .tree))) before after
-  pub laid : (m : Repeat bs start stop base next first)
+pub record RepeatLaid (bs : List ℕ) (start stop base next first n g : ℕ) (before after : List ℕ) : Type 0 where
+  pub kept : Kept base (base + n) before after
+  pub laid : (m : Repeat bs start stop base next first n g)
       → Lays after bs (writtenOut (Pattern.repeat (m .least) (m .upper) (m .mode) (m .tree)) first) base next
 
 -- `any_star`: room for its four places

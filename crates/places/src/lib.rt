@@ -13,7 +13,7 @@ ghost use Rattle.paper.specs.Pattern.{repeatPlaces};
 ghost use Rattle.paper.specs.Check.{bodyEnd, upperOf};
 ghost use Rattle.pattern.specs.Walk.{optionalPasses};
 ghost use Rattle.places.specs.Laid.{entryOf};
-ghost use Rattle.places.specs.Asked.{Fitting, Put, Forked, Capped, insideStart, CountsRight, ownPlaces, OwnPlaces, ownGroups, Counting, Counted, Ranged, RangedLaid, One, OneLaid, Head, HeadLaid, Several, SeveralLaid, innerStart, movedTo, movedOther, Moving, PutMoved, Copied, Begun, BegunLaid, Repeating, PassesLaid, PassesLeft, Repeat, RepeatLaid, Star, StarLaid, tableRoom, mostPlaces, mostNumber, mostCounted, mostOwn};
+ghost use Rattle.places.specs.Asked.{Fitting, Put, Forked, Capped, insideStart, CountsRight, ownPlaces, OwnPlaces, ownGroups, Counting, Counted, Ranged, RangedLaid, One, OneLaid, Head, HeadLaid, Several, SeveralLaid, innerStart, movedTo, movedOther, Moving, PutMoved, Copied, Begun, BegunLaid, Passed, PassedInside, Repeating, PassesLaid, PassesLeft, Repeat, RepeatLaid, Star, StarLaid, tableRoom, mostPlaces, mostNumber, mostCounted, mostOwn};
 ghost use Rattle.places.specs.Built.{Accepted, BuiltMatch, BuiltSearch};
 
 // Writes a place's four numbers.
@@ -191,6 +191,17 @@ fn optional_passes(least: usize, most: usize) -> usize
     } else {
         most - least
     }
+}
+
+// The places of what a repeat repeats, by those of the whole repeat.
+fn inner_places(all: usize, least: usize, may: usize) -> usize
+    requires { ⌜ Passed all least may ⌝ }
+    ensures { λ r. ⌜ PassedInside all least may r ⌝ }
+{
+    let inside = all - least - 3 * may;
+    let passes = least + may;
+    // a division costs as much as several places
+    if passes == 1 { inside } else { inside / passes }
 }
 
 // Where the inner part of the first of some passes starts: behind its begin, which has a fork before it where the pass is optional.
@@ -410,43 +421,37 @@ fn headed(
 }
 
 // The places of one repeat: the inner part of its first pass, and the passes around it and its copies.
-fn repeated(
-    pattern: &[u8],
-    table: &mut [u16],
-    start: usize,
-    stop: usize,
-    base: usize,
-    next: usize,
-    first: usize,
-)
-    requires { ⌜ Repeat (now pattern) start stop base next first ⌝ }
+fn repeated(pattern: &[u8], table: &mut [u16], part: Part, base: usize, next: usize)
+    requires { ⌜ Repeat (now pattern) ((part .at) + 4) (part .stop) base next (part .first) (part .places) (part .groups) ⌝ }
     requires { ⌜ tableRoom ≤ length (now table) ⌝ }
-    ensures { λ _. ⌜ RepeatLaid (now (pattern .entry)) start stop base next first (now (table .entry)) (now (table .exit)) ⌝ }
+    ensures { λ _. ⌜ RepeatLaid (now (pattern .entry)) ((part .at) + 4) (part .stop) base next (part .first) (part .places) (part .groups) (now (table .entry)) (now (table .exit)) ⌝ }
 {
-    let at = start + 6;
+    let start = part.at + 4;
+    let first = part.first;
+    let groups = part.groups;
     let least = number_at(pattern, start);
     let most = number_at(pattern, start + 2);
     let mode = number_at(pattern, start + 4);
-    let inside = count(pattern, at, stop);
-    let places = inside.places;
+    let may = optional_passes(least, most);
+    let places = inner_places(part.places, least, may);
     let model = inner_start(least, base);
-    let part = Part {
-        at,
-        stop,
+    let inner = Part {
+        at: start + 6,
+        stop: part.stop,
         first,
         places,
-        groups: inside.groups,
+        groups,
     };
     let pass = Pass {
         model,
         places,
         first,
-        groups: inside.groups,
+        groups,
         endless: most == Pattern::NO_UPPER_END,
         mode,
     };
-    one(pattern, table, part, model, model + places);
-    passes(table, pass, least, optional_passes(least, most), base, next);
+    one(pattern, table, inner, model, model + places);
+    passes(table, pass, least, may, base, next);
 }
 
 // The place of a set: a single range stands in the place's own numbers, so that a step reads no pattern; more are found by their offset.
@@ -502,7 +507,7 @@ fn one(pattern: &[u8], table: &mut [u16], part: Part, base: usize, next: usize)
         );
         put(table, close, PlaceKind::CLOSE, next, first, 0);
     } else if kind == Kind::REPEAT {
-        repeated(pattern, table, start, stop, base, next, first);
+        repeated(pattern, table, part, base, next);
     } else {
         let inner = Part {
             at: start,

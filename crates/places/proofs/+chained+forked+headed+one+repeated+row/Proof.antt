@@ -7,7 +7,7 @@ use native.Mathlib.Omega.{arith}
 use Rattle.places.specs.Asked.{Several}
 use Rattle.places.proofs.Entering.{at-least-one}
 use Rattle.places.proofs.Building.{head-fits, head-one}
-use Rattle.places.proofs.Records.{Along, repeat-counting, counts-right, inner-ask, passes-ask, repeat-passes, nothing-to-lay, stop-laid, set-ask, set-laid, group-one, group-two, group-some, group-laid, repeat-ask, repeat-laid, row-ask, row-laid, row-header, last-one, more-counting, more-few, more-inside, fork-sum, fork-one, fork-rest, fork-fits, chain-sum, chain-one, chain-rest, along-all, along-chain, along-fork, along-last}
+use Rattle.places.proofs.Records.{Along, counts-right, passed-ask, inner-ask, passes-ask, repeat-passes, nothing-to-lay, stop-laid, set-ask, set-laid, group-one, group-two, group-some, group-laid, repeat-ask, repeat-laid, row-ask, row-laid, row-header, last-one, more-counting, more-few, more-inside, fork-sum, fork-one, fork-rest, fork-fits, chain-sum, chain-one, chain-rest, along-all, along-chain, along-fork, along-last}
 use borrow.Fn.Kinds.{In}
 use borrow.Fn.PlainCycle.{Measures, is, falls, and}
 use Rattle.places.proofs.chained.Reads as chained
@@ -30,6 +30,7 @@ use Rattle.places.proofs.row.Kinds as row-kinds
 use Rattle.places.proofs.+chained+forked+headed+one+repeated+row.Lts-row as row-lts
 use Rattle.places.proofs.count.Reads as count-reads
 use Rattle.places.proofs.entered.Reads as entered-reads
+use Rattle.places.proofs.inner_places.Reads as inner-places-reads
 use Rattle.places.proofs.inner_start.Reads as inner-start-reads
 use Rattle.places.proofs.optional_passes.Reads as optional-passes-reads
 use Rattle.places.proofs.passes.Reads as passes-reads
@@ -53,7 +54,7 @@ abbrev μ-one : Measures 2 one-kinds.ps ℕ
 μ-one κs a = 4 * (a .1 .1 .0 .stop - a .1 .1 .0 .at)
 
 abbrev μ-repeated : Measures 2 repeated-kinds.ps ℕ
-μ-repeated κs a = 4 * (a .1 .1 .1 .0 - a .1 .1 .0)
+μ-repeated κs a = 4 * (a .1 .1 .0 .stop - (a .1 .1 .0 .at + 4))
 
 abbrev μ-row : Measures 2 row-kinds.ps ℕ
 μ-row κs a = 4 * (a .1 .1 .0 .stop - a .1 .1 .0 .at) + 2
@@ -551,20 +552,15 @@ one-returns-4 t c =
 one-same-length-4 : (t : ℕ) → one-lts.Need-same-length-4 (one-calls t) (one-at t) one.Post
 one-same-length-4 t c =
     let the-repeated = c .before .before .repeated in
-    let the-pre = c .before .before .before .before .before .before .before .before .before .before .before .before .pre in
-    let the-if1 = c .before .before .before .before .before .before .before .before .if1 in
-    let the-number-at = c .before .before .before .before .before .before .before .before .before .number-at in
-    let the-if5 = c .before .before .before .before .if5 in
-    the-repeated .ensures .kept (repeat-ask (the-pre .1 .0) (the-if1 .left) (the-number-at .ensures .0) (the-if5 .taken)) .same-length
+    the-repeated .ensures .kept .same-length
 
 one-returns-5 : (t : ℕ) → one-lts.Need-returns-5 (one-calls t) (one-at t) one.Post
 one-returns-5 t c =
-    let the-pre = c .before .before .before .before .before .before .before .before .before .before .before .before .pre in
     let the-if1 = c .before .before .before .before .before .before .before .before .if1 in
     let the-number-at = c .before .before .before .before .before .before .before .before .before .number-at in
     let the-if5 = c .before .before .before .before .if5 in
     let the-repeated = c .before .before .repeated in
-    repeat-laid (the-pre .1 .0) (the-if1 .left) (the-number-at .ensures .0) (the-if5 .taken) (the-repeated .ensures)
+    repeat-laid (the-if1 .left) (the-number-at .ensures .0) (the-if5 .taken) (the-repeated .ensures)
 
 one-same-length-5 : (t : ℕ) → one-lts.Need-same-length-5 (one-calls t) (one-at t) one.Post
 one-same-length-5 t c =
@@ -583,106 +579,123 @@ one-returns-6 t c =
     row-laid (the-if1 .left) (the-number-at .ensures .0) (the-if2 .left) (the-if3 .left) (the-if4 .left) (the-if5 .left) (the-row .ensures)
 
 abbrev repeated-calls : ℕ → repeated-lts.Claims
-repeated-calls t = (number-at-reads.Asked, number-at-reads.Learnt, count-reads.Asked, count-reads.Learnt, inner-start-reads.Asked, inner-start-reads.Learnt, one-below t, one.Post, optional-passes-reads.Asked, optional-passes-reads.Learnt, passes-reads.Asked, passes-reads.Learnt)
+repeated-calls t = (number-at-reads.Asked, number-at-reads.Learnt, optional-passes-reads.Asked, optional-passes-reads.Learnt, inner-places-reads.Asked, inner-places-reads.Learnt, inner-start-reads.Asked, inner-start-reads.Learnt, one-below t, one.Post, passes-reads.Asked, passes-reads.Learnt)
 
-repeated-add-at : (t : ℕ) → repeated-lts.Need-add-at (repeated-calls t) (repeated-at t) repeated.Post
-repeated-add-at t c =
-    let the-pre = c .before .before .pre in
-    omega (arith, (the-pre .1 .0) .inside .end-is, (the-pre .1 .0) .inside .ends, (the-pre .1 .0) .inside .short)
+repeated-add-start : (t : ℕ) → repeated-lts.Need-add-start (repeated-calls t) (repeated-at t) repeated.Post
+repeated-add-start t c =
+    let the-pre = c .before .before .before .pre in
+    omega (arith, the-pre .1 .0 .inside .end-is, the-pre .1 .0 .inside .ends, the-pre .1 .0 .inside .short)
 
 repeated-number-at-requires : (t : ℕ) → repeated-lts.Need-number-at-requires (repeated-calls t) (repeated-at t) repeated.Post
 repeated-number-at-requires t c κs =
-    let the-pre = c .before .before .pre in
-    omega (arith, (the-pre .1 .0) .inside .end-is, (the-pre .1 .0) .inside .ends, (the-pre .1 .0) .inside .short)
+    let the-pre = c .before .before .before .pre in
+    omega (arith, the-pre .1 .0 .inside .end-is, the-pre .1 .0 .inside .ends, the-pre .1 .0 .inside .short)
 
 repeated-add-number-at : (t : ℕ) → repeated-lts.Need-add-number-at (repeated-calls t) (repeated-at t) repeated.Post
 repeated-add-number-at t c =
-    let the-pre = c .before .before .before .pre in
-    omega (arith, (the-pre .1 .0) .inside .end-is, (the-pre .1 .0) .inside .ends, (the-pre .1 .0) .inside .short)
+    let the-pre = c .before .before .before .before .pre in
+    omega (arith, the-pre .1 .0 .inside .end-is, the-pre .1 .0 .inside .ends, the-pre .1 .0 .inside .short)
 
 repeated-number-at-requires-2 : (t : ℕ) → repeated-lts.Need-number-at-requires-2 (repeated-calls t) (repeated-at t) repeated.Post
 repeated-number-at-requires-2 t c κs =
-    let the-pre = c .before .before .before .pre in
-    omega (arith, (the-pre .1 .0) .inside .end-is, (the-pre .1 .0) .inside .ends, (the-pre .1 .0) .inside .short)
+    let the-pre = c .before .before .before .before .pre in
+    omega (arith, the-pre .1 .0 .inside .end-is, the-pre .1 .0 .inside .ends, the-pre .1 .0 .inside .short)
 
 repeated-add-number-at-2 : (t : ℕ) → repeated-lts.Need-add-number-at-2 (repeated-calls t) (repeated-at t) repeated.Post
 repeated-add-number-at-2 t c =
-    let the-pre = c .before .before .before .before .pre in
-    omega (arith, (the-pre .1 .0) .inside .end-is, (the-pre .1 .0) .inside .ends, (the-pre .1 .0) .inside .short)
+    let the-pre = c .before .before .before .before .before .pre in
+    omega (arith, the-pre .1 .0 .inside .end-is, the-pre .1 .0 .inside .ends, the-pre .1 .0 .inside .short)
 
 repeated-number-at-requires-3 : (t : ℕ) → repeated-lts.Need-number-at-requires-3 (repeated-calls t) (repeated-at t) repeated.Post
 repeated-number-at-requires-3 t c κs =
-    let the-pre = c .before .before .before .before .pre in
-    omega (arith, (the-pre .1 .0) .inside .end-is, (the-pre .1 .0) .inside .ends, (the-pre .1 .0) .inside .short)
-
-repeated-count-requires : (t : ℕ) → repeated-lts.Need-count-requires (repeated-calls t) (repeated-at t) repeated.Post
-repeated-count-requires t c κs =
     let the-pre = c .before .before .before .before .before .pre in
-    repeat-counting (the-pre .1 .0)
+    omega (arith, the-pre .1 .0 .inside .end-is, the-pre .1 .0 .inside .ends, the-pre .1 .0 .inside .short)
+
+repeated-optional-passes-requires : (t : ℕ) → repeated-lts.Need-optional-passes-requires (repeated-calls t) (repeated-at t) repeated.Post
+repeated-optional-passes-requires t c κs =
+    let the-pre = c .before .before .before .before .before .before .pre in
+    let the-number-at = c .before .before .number-at in
+    let the-number-at2 = c .before .number-at2 in
+    let the-number-at3 = c .number-at3 in
+    counts-right (the-pre .1 .0) (the-number-at .ensures .0) (the-number-at2 .ensures .0) (the-number-at3 .ensures .0)
+
+repeated-inner-places-requires : (t : ℕ) → repeated-lts.Need-inner-places-requires (repeated-calls t) (repeated-at t) repeated.Post
+repeated-inner-places-requires t c κs =
+    let the-pre = c .before .before .before .before .before .before .before .pre in
+    let the-number-at = c .before .before .before .number-at in
+    let the-number-at2 = c .before .before .number-at2 in
+    let the-number-at3 = c .before .number-at3 in
+    let the-optional-passes = c .optional-passes in
+    passed-ask (the-pre .1 .0) (the-number-at .ensures .0) (the-number-at2 .ensures .0) (the-number-at3 .ensures .0) (the-optional-passes .ensures)
 
 repeated-inner-start-requires : (t : ℕ) → repeated-lts.Need-inner-start-requires (repeated-calls t) (repeated-at t) repeated.Post
 repeated-inner-start-requires t c κs =
-    let the-pre = c .before .before .before .before .before .before .pre in
+    let the-pre = c .before .before .before .before .before .before .before .before .pre in
     omega (arith, the-pre .1 .0 .room)
 
 repeated-add-one : (t : ℕ) → repeated-lts.Need-add-one (repeated-calls t) (repeated-at t) repeated.Post
 repeated-add-one t c =
-    let the-pre = c .before .before .before .before .before .before .before .before .pre in
+    let the-pre = c .before .before .before .before .before .before .before .before .before .pre in
     let the-number-at = c .before .before .before .before .before .number-at in
     let the-number-at2 = c .before .before .before .before .number-at2 in
     let the-number-at3 = c .before .before .before .number-at3 in
-    let the-count = c .before .before .count in
+    let the-optional-passes = c .before .before .optional-passes in
+    let the-inner-places = c .before .inner-places in
+    let the-inner-start = c .inner-start in
+    omega (arith, the-pre .1 .0 .inside .end-is, the-pre .1 .0 .inside .ends, the-pre .1 .0 .inside .short, inner-ask (the-pre .1 .0) (the-number-at .ensures .0) (the-number-at2 .ensures .0) (the-number-at3 .ensures .0) (the-optional-passes .ensures) (the-inner-places .ensures) (the-inner-start .ensures) .room)
+
+repeated-add-one-2 : (t : ℕ) → repeated-lts.Need-add-one-2 (repeated-calls t) (repeated-at t) repeated.Post
+repeated-add-one-2 t c =
+    let the-pre = c .before .before .before .before .before .before .before .before .before .before .pre in
+    let the-number-at = c .before .before .before .before .before .before .number-at in
+    let the-number-at2 = c .before .before .before .before .before .number-at2 in
+    let the-number-at3 = c .before .before .before .before .number-at3 in
+    let the-optional-passes = c .before .before .before .optional-passes in
+    let the-inner-places = c .before .before .inner-places in
     let the-inner-start = c .before .inner-start in
-    omega (arith, inner-ask (the-pre .1 .0) (the-number-at .ensures .0) (the-number-at2 .ensures .0) (the-number-at3 .ensures .0) (the-count .ensures) (the-inner-start .ensures) .room)
+    omega (arith, the-pre .1 .0 .inside .end-is, the-pre .1 .0 .inside .ends, the-pre .1 .0 .inside .short, inner-ask (the-pre .1 .0) (the-number-at .ensures .0) (the-number-at2 .ensures .0) (the-number-at3 .ensures .0) (the-optional-passes .ensures) (the-inner-places .ensures) (the-inner-start .ensures) .room)
 
 repeated-one-requires : (t : ℕ) → repeated-lts.Need-one-requires (repeated-calls t) (repeated-at t) repeated.Post
 repeated-one-requires t c κs =
-    let the-pre = c .before .before .before .before .before .before .before .before .pre in
-    let the-number-at = c .before .before .before .before .before .number-at in
-    let the-number-at2 = c .before .before .before .before .number-at2 in
-    let the-number-at3 = c .before .before .before .number-at3 in
-    let the-count = c .before .before .count in
+    let the-pre = c .before .before .before .before .before .before .before .before .before .before .pre in
+    let the-number-at = c .before .before .before .before .before .before .number-at in
+    let the-number-at2 = c .before .before .before .before .before .number-at2 in
+    let the-number-at3 = c .before .before .before .before .number-at3 in
+    let the-optional-passes = c .before .before .before .optional-passes in
+    let the-inner-places = c .before .before .inner-places in
     let the-inner-start = c .before .inner-start in
-    (omega (arith, the-pre .0, the-pre .1 .0 .inside .end-is), (inner-ask (the-pre .1 .0) (the-number-at .ensures .0) (the-number-at2 .ensures .0) (the-number-at3 .ensures .0) (the-count .ensures) (the-inner-start .ensures), the-pre .1 .1))
-
-repeated-optional-passes-requires : (t : ℕ) → repeated-lts.Need-optional-passes-requires (repeated-calls t) (repeated-at t) repeated.Post
-repeated-optional-passes-requires t c κs =
-    let the-pre = c .before .before .before .before .before .before .before .before .before .before .before .before .pre in
-    let the-number-at = c .before .before .before .before .before .before .before .before .before .number-at in
-    let the-number-at2 = c .before .before .before .before .before .before .before .before .number-at2 in
-    let the-number-at3 = c .before .before .before .before .before .before .before .number-at3 in
-    let the-count = c .before .before .before .before .before .before .count in
-    counts-right (the-pre .1 .0) (the-number-at .ensures .0) (the-number-at2 .ensures .0) (the-number-at3 .ensures .0) (the-count .ensures)
+    (omega (arith, the-pre .0, the-pre .1 .0 .inside .end-is), (inner-ask (the-pre .1 .0) (the-number-at .ensures .0) (the-number-at2 .ensures .0) (the-number-at3 .ensures .0) (the-optional-passes .ensures) (the-inner-places .ensures) (the-inner-start .ensures), the-pre .1 .1))
 
 repeated-passes-requires : (t : ℕ) → repeated-lts.Need-passes-requires (repeated-calls t) (repeated-at t) repeated.Post
 repeated-passes-requires t c κs =
-    let the-pre = c .before .before .before .before .before .before .before .before .before .before .before .before .before .pre in
+    let the-pre = c .before .before .before .before .before .before .before .before .before .before .before .before .before .before .pre in
     let the-number-at = c .before .before .before .before .before .before .before .before .before .before .number-at in
     let the-number-at2 = c .before .before .before .before .before .before .before .before .before .number-at2 in
     let the-number-at3 = c .before .before .before .before .before .before .before .before .number-at3 in
-    let the-count = c .before .before .before .before .before .before .before .count in
-    let the-inner-start = c .before .before .before .before .before .before .inner-start in
-    let the-optional-passes = c .optional-passes in
-    let the-one = c .before .before .before .before .one in
-    (passes-ask (the-pre .1 .0) (the-number-at .ensures .0) (the-number-at2 .ensures .0) (the-number-at3 .ensures .0) (the-count .ensures) (the-inner-start .ensures) (the-optional-passes .ensures), omega (arith, the-one .ensures .kept .same-length, the-pre .1 .1))
+    let the-optional-passes = c .before .before .before .before .before .before .before .optional-passes in
+    let the-inner-places = c .before .before .before .before .before .before .inner-places in
+    let the-inner-start = c .before .before .before .before .before .inner-start in
+    let the-one = c .before .before .before .one in
+    (passes-ask (the-pre .1 .0) (the-number-at .ensures .0) (the-number-at2 .ensures .0) (the-number-at3 .ensures .0) (the-optional-passes .ensures) (the-inner-places .ensures) (the-inner-start .ensures), omega (arith, the-one .ensures .kept .same-length, the-pre .1 .1))
 
 repeated-same-length : (t : ℕ) → repeated-lts.Need-same-length (repeated-calls t) (repeated-at t) repeated.Post
 repeated-same-length t c =
     let the-passes = c .before .before .passes in
-    let the-one = c .before .before .before .before .before .before .before .one in
+    let the-one = c .before .before .before .before .before .before .one in
     the-passes .ensures .kept .same-length ∙ the-one .ensures .kept .same-length
 
 repeated-returns : (t : ℕ) → repeated-lts.Need-returns (repeated-calls t) (repeated-at t) repeated.Post
 repeated-returns t c =
+    let the-pre = c .before .before .before .before .before .before .before .before .before .before .before .before .before .before .before .before .before .pre in
     let the-number-at = c .before .before .before .before .before .before .before .before .before .before .before .before .before .number-at in
     let the-number-at2 = c .before .before .before .before .before .before .before .before .before .before .before .before .number-at2 in
     let the-number-at3 = c .before .before .before .before .before .before .before .before .before .before .before .number-at3 in
-    let the-count = c .before .before .before .before .before .before .before .before .before .before .count in
-    let the-inner-start = c .before .before .before .before .before .before .before .before .before .inner-start in
-    let the-optional-passes = c .before .before .before .optional-passes in
-    let the-one = c .before .before .before .before .before .before .before .one in
+    let the-optional-passes = c .before .before .before .before .before .before .before .before .before .before .optional-passes in
+    let the-inner-places = c .before .before .before .before .before .before .before .before .before .inner-places in
+    let the-inner-start = c .before .before .before .before .before .before .before .before .inner-start in
+    let the-one = c .before .before .before .before .before .before .one in
     let the-passes = c .before .before .passes in
-    repeat-passes (the-number-at .ensures .0) (the-number-at2 .ensures .0) (the-number-at3 .ensures .0) (the-count .ensures) (the-inner-start .ensures) (the-optional-passes .ensures) (the-one .ensures) (the-passes .ensures)
+    repeat-passes (the-pre .1 .0) (the-number-at .ensures .0) (the-number-at2 .ensures .0) (the-number-at3 .ensures .0) (the-optional-passes .ensures) (the-inner-places .ensures) (the-inner-start .ensures) (the-one .ensures) (the-passes .ensures)
 
 abbrev row-calls : ℕ → row-lts.Claims
 row-calls t = (forked-below t, forked.Post, chained-below t, chained.Post)
@@ -853,30 +866,31 @@ pub +chained+forked+headed+one+repeated+row-spec : {M : Type 1} → statement M
     (λ t. repeated-lts.spec (
       number-at-reads.Asked,
       number-at-reads.Learnt,
-      count-reads.Asked,
-      count-reads.Learnt,
+      optional-passes-reads.Asked,
+      optional-passes-reads.Learnt,
+      inner-places-reads.Asked,
+      inner-places-reads.Learnt,
       inner-start-reads.Asked,
       inner-start-reads.Learnt,
       one-below t,
       one.Post,
-      optional-passes-reads.Asked,
-      optional-passes-reads.Learnt,
       passes-reads.Asked,
       passes-reads.Learnt,
     )
     (repeated-at t)
     repeated.Post
-    (repeated-add-at t)
+    (repeated-add-start t)
     (repeated-number-at-requires t)
     (repeated-add-number-at t)
     (repeated-number-at-requires-2 t)
     (repeated-add-number-at-2 t)
     (repeated-number-at-requires-3 t)
-    (repeated-count-requires t)
+    (repeated-optional-passes-requires t)
+    (repeated-inner-places-requires t)
     (repeated-inner-start-requires t)
     (repeated-add-one t)
+    (repeated-add-one-2 t)
     (repeated-one-requires t)
-    (repeated-optional-passes-requires t)
     (repeated-passes-requires t)
     (repeated-same-length t)
     (repeated-returns t))
