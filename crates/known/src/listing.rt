@@ -5,9 +5,6 @@ ghost use Prim.Native.Nat.{_≤_};
 ghost use mathlib.Core.Path.{_≡_};
 ghost use lib.ListN.{length};
 
-// The numbers of a place in a table: its kind, its follower, and two more.
-pub const NUMBERS: usize = 4;
-
 // A number of a table as an index.
 fn wide(x: u16) -> usize
     ensures { λ r. ⌜ r ≡ x ⌝ }
@@ -193,13 +190,13 @@ pub fn places(out: &mut [u8], at: usize, pattern: &[u8], code: &[u16]) -> usize
             out,
             n,
             pattern,
-            b / NUMBERS,
+            b / PlaceKind::NUMBERS,
             code[b],
             code[b + 1],
             code[b + 2],
             code[b + 3],
         );
-        b += NUMBERS;
+        b += PlaceKind::NUMBERS;
     }
     n
 }

@@ -4,6 +4,7 @@ use crate::listing;
 use crate::words;
 use matcher::Built;
 use matcher::Machine;
+use pattern::PlaceKind;
 ghost use Prim.Native.Nat.{_≤_};
 ghost use lib.ListN.{length};
 
@@ -17,8 +18,8 @@ pub struct Shown {
 fn listed(out: &mut [u8], at: usize, pattern: &[u8], code: &[u16], places: usize) -> usize
     ensures { λ r. ⌜ r ≤ length (now (out .entry)) ⌝ }
 {
-    if places <= code.len() / listing::NUMBERS {
-        listing::places(out, at, pattern, &code[0..listing::NUMBERS * places])
+    if places <= code.len() / PlaceKind::NUMBERS {
+        listing::places(out, at, pattern, &code[0..PlaceKind::NUMBERS * places])
     } else {
         printer::bytes(out, at, b"", false)
     }

@@ -1,6 +1,7 @@
 // Whole match and search (01, "The ordered reading"), over a machine that is built once and can be run on many lines.
 use pattern::Line;
 use pattern::Pattern;
+use pattern::PlaceKind;
 use pattern::Refusal;
 use pattern::Spans;
 use run::Ran;
@@ -22,7 +23,7 @@ impl Machine {
     // the wrap has ten places
     pub const PLACES: usize = Pattern::PLACES + 10;
     // four numbers a place
-    pub const CODE: usize = 4 * Machine::PLACES;
+    pub const CODE: usize = PlaceKind::NUMBERS * Machine::PLACES;
     // a pair of a place and a level: the depth is below the levels of the records
     pub const PAIRS: usize = Machine::PLACES * Pattern::LEVELS;
     // two lists of threads, each with one more for the winner

@@ -166,7 +166,7 @@ impl PlaceKind {
 
     pub const ACCEPT: u16 = 9;
 
-    // The numbers above are `paper`'s.
+    // The kinds above are `paper`'s.
     pub fn all() -> [u16; 10]
         ensures { λ r. ⌜ r ≡ forkPlace ∷ openPlace ∷ closePlace ∷ beginPlace ∷ beginOptionalPlace ∷ endPlace ∷ setPlace ∷ rangePlace ∷ stopPlace ∷ acceptPlace ∷ [] ⌝ }
     {
@@ -183,6 +183,9 @@ impl PlaceKind {
             PlaceKind::ACCEPT,
         ]
     }
+
+    // How many numbers a place has in a table: its kind, its follower, and two more.
+    pub const NUMBERS: usize = 4;
 }
 
 // The refusals by number.

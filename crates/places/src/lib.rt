@@ -21,7 +21,7 @@ fn put(table: &mut [u16], x: usize, kind: u16, next: usize, a: usize, n: usize)
     requires { ⌜ Fitting (now table) x next a n ⌝ }
     ensures { λ _. ⌜ Put (now (table .entry)) x kind next a n (now (table .exit)) ⌝ }
 {
-    let b = 4 * x;
+    let b = PlaceKind::NUMBERS * x;
     table[b] = kind;
     table[b + 1] = next as u16;
     table[b + 2] = a as u16;
@@ -263,7 +263,7 @@ fn place_copied(table: &mut [u16], shift: Shift, k: usize)
     requires { ⌜ tableRoom ≤ length (now table) ⌝ }
     ensures { λ _. ⌜ PutMoved (shift .from) (shift .count) (shift .to) (shift .next) k (now (table .entry)) (now (table .exit)) ⌝ }
 {
-    let b = 4 * (shift.from + k);
+    let b = PlaceKind::NUMBERS * (shift.from + k);
     let kind = table[b];
     let next = moved(shift, number(table[b + 1]));
     let a = moved_other(shift, kind, number(table[b + 2]));

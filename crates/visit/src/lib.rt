@@ -85,7 +85,7 @@ fn numbers_of(code: &[u16], place: usize) -> Numbers
     requires { ⌜ placeNumbers * place + 3 < length (now code) ⌝ }
     ensures { λ r. ⌜ (r .kind ≡ kindAt (now (code .entry)) place) × (r .next ≡ nextAt (now (code .entry)) place) × (r .a ≡ firstAt (now (code .entry)) place) × (r .n ≡ manyAt (now (code .entry)) place) ⌝ }
 {
-    let b = 4 * place;
+    let b = PlaceKind::NUMBERS * place;
     Numbers {
         kind: wide(code[b]),
         next: wide(code[b + 1]),
