@@ -1,5 +1,5 @@
 -- What checking found and building wrote make a machine that is ready.
-use Prim.Native.Nat.{ℕ, max, _≤_, _<_}
+use Prim.Native.Nat.{ℕ, _-_, max, _≤_, _<_}
 use native.Mathlib.Omega.{arith}
 use mathlib.Core.Path.{_≡_, refl, sym, ap, subst, _∙_}
 use mathlib.Core.Bool.{Bool, true, false}
@@ -21,27 +21,28 @@ use Rattle.matcher.specs.declared.Built.the-variants.{Refused, Machine}
 use Rattle.matcher.specs.Machine.{wrapped, firstGroup, Ready, Builds}
 use Rattle.matcher.proofs.Wiring.{few-places}
 
--- the tree of a pattern that checking took, with its depth and its groups
-pub record Tree (pattern : List ℕ) (deep many : ℕ) : Type 0 where
+-- the tree of a pattern that checking took, with its places, its depth and its groups
+pub record Tree (pattern : List ℕ) (all deep many : ℕ) : Type 0 where
   pub tree : Pattern
   pub found : patternOf pattern ≡ accepted tree
+  pub all-are : all ≡ allPlaces tree
   pub deep-is : deep ≡ depth tree
   pub many-are : many ≡ groups tree
 
 -- checking takes a pattern exactly where it has a tree
-pub tree-of : {pattern : List ℕ} {r : Answer} {n d g : ℕ} → Checks pattern r → r ≡ Accepted n d g → Tree pattern d g
+pub tree-of : {pattern : List ℕ} {r : Answer} {n d g : ℕ} → Checks pattern r → r ≡ Accepted n d g → Tree pattern n d g
 tree-of {pattern} {r} {n} {d} {g} checked is = look (patternOf pattern) refl (sym (ap answerOf is) ∙ checked .answer)
   where
     look : (found : Checked Pattern) → patternOf pattern ≡ found
-        → accepted (record { places = n; depth = d; groups = g }) ≡ (found >>= λ e. accepted (numbersOf e)) → Tree pattern d g
+        → accepted (record { places = n; depth = d; groups = g }) ≡ (found >>= λ e. accepted (numbersOf e)) → Tree pattern n d g
     look (refused number place) is e = let z : _≡_ {A = ℕ} 0 1 = cc in absurd (omega arith)
     look (accepted tree) is e =
         let same : _≡_ {A = Numbers} (record { places = n; depth = d; groups = g }) (numbersOf tree) = cc in
-        record { tree = tree; found = is; deep-is = ap (λ (m : Numbers). m .depth) same; many-are = ap (λ (m : Numbers). m .groups) same }
+        record { tree = tree; found = is; all-are = ap (λ (m : Numbers). m .places) same; deep-is = ap (λ (m : Numbers). m .depth) same; many-are = ap (λ (m : Numbers). m .groups) same }
 
 -- so it can be built
-pub accepted-of : {pattern : List ℕ} {d g : ℕ} → Tree pattern d g → places.Accepted pattern
-accepted-of t = record { tree = t .tree; found = t .found }
+pub accepted-of : {pattern : List ℕ} {n d g : ℕ} → Tree pattern n d g → places.Accepted pattern (n - 1) g
+accepted-of t = record { tree = t .tree; found = t .found; places-are = omega (arith, t .all-are); groups-are = t .many-are }
 
 -- and refuses it otherwise
 pub fault-of : {pattern : List ℕ} {r : Answer} {number place : ℕ} → Checks pattern r → r ≡ Answer.Refused number place → patternOf pattern ≡ refused number place
@@ -71,10 +72,10 @@ module _ (pattern before after : List ℕ) (bytes : (i : ℕ) → getD pattern i
       }
 
   -- for a whole match
-  pub builds-match : {count d g : ℕ} (searches : Bool) → searches ≡ false → Tree pattern d g → places.BuiltMatch pattern before after count
+  pub builds-match : {count n d g : ℕ} (searches : Bool) → searches ≡ false → Tree pattern n d g → places.BuiltMatch pattern before after count
       → Builds pattern searches before after (Machine count d g)
   unfolding ready
-  builds-match {count} {d} {g} searches is t built =
+  builds-match {count} {n} {d} {g} searches is t built =
       let e = t .tree in
       let same = built .count-is e (t .found) in
       subst (λ (b : Bool). Builds pattern b before after (Machine count d g)) (sym is) (
@@ -84,10 +85,10 @@ module _ (pattern before after : List ℕ) (bytes : (i : ℕ) → getD pattern i
       )
 
   -- for a search
-  pub builds-search : {count d g deep : ℕ} (searches : Bool) → searches ≡ true → deep ≡ max 1 d → Tree pattern d g
+  pub builds-search : {count n d g deep : ℕ} (searches : Bool) → searches ≡ true → deep ≡ max 1 d → Tree pattern n d g
       → places.BuiltSearch pattern before after count → Builds pattern searches before after (Machine count deep g)
   unfolding ready
-  builds-search {count} {d} {g} {deep = deep} searches is low t built =
+  builds-search {count} {n} {d} {g} {deep = deep} searches is low t built =
       let e = t .tree in
       let same = built .count-is e (t .found) in
       subst (λ (b : Bool). Builds pattern b before after (Machine count deep g)) (sym is) (

@@ -84,19 +84,19 @@ pub fn build(pattern: &[u8], searches: bool, code: &mut [u16]) -> Built
     match pattern::check(pattern) {
         pattern::Answer::Refused { number, place } => Built::Refused { number, place },
         pattern::Answer::Accepted {
-            places: _,
+            places: told,
             depth,
             groups,
         } => {
             if searches {
-                let places = places::build_search(pattern, code);
+                let places = places::build_search(pattern, code, told - 1, groups);
                 Built::Machine {
                     places,
                     depth: search_depth(depth),
                     groups,
                 }
             } else {
-                let places = places::build_match(pattern, code);
+                let places = places::build_match(pattern, code, told - 1, groups);
                 Built::Machine {
                     places,
                     depth,

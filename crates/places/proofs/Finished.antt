@@ -4,33 +4,37 @@ use mathlib.Core.Path.{_≡_, refl, sym, ap, subst, _∙_}
 use mathlib.Core.List.{List, [], _∷_, _++_}
 use native.Mathlib.Omega.{arith}
 use lib.ListN.{length}
+use Rattle.paper.specs.Limits.{patternGroups, patternPlaces}
+use Rattle.paper.specs.Refusal.{accepted}
 use Rattle.paper.specs.Pattern.{greedy, lazy, Pattern, places, allPlaces, groups}
-use Rattle.paper.specs.Check.{modeOf}
+use Rattle.paper.specs.Check.{modeOf, patternOf}
 use Rattle.paper.specs.Reading.{everyByte}
 use Rattle.paper.specs.Machine.{Core, eats, captures, chain, star, accept, size, lay, writtenOut, placesOf}
 use Rattle.paper.specs.Match.{wrap}
+use Rattle.paper.proofs.Accepted.{accepted-injective}
 use Rattle.paper.proofs.Sizes.{size-written}
 use Rattle.places.specs.Laid.{Holds, Kept, Lays}
-use Rattle.places.specs.Asked.{Put, Forked, Counting, Counted, One, OneLaid, HeadLaid, StarLaid}
-use Rattle.places.specs.Built.{Built}
+use Rattle.places.specs.Asked.{Put, Forked, One, OneLaid, HeadLaid, StarLaid}
+use Rattle.places.specs.Built.{Accepted, Built}
 use Rattle.places.proofs.Laying.{holds-kept, plain-holds, put-holds, lays-kept, kept-both}
 use Rattle.places.proofs.Entering.{entry-some, star-lays}
 use Rattle.places.proofs.Records.{captures-lays, chain-lays}
-use Rattle.places.proofs.Walked.{Whole}
+use Rattle.places.proofs.Walked.{Whole, pattern-stands}
 use Rattle.places.proofs.Listing.{listed, lists-one, lists-both, lays-lists, decode-listed}
 
--- the pattern is one record
-abbrev pub whole-counting : {bs : List ℕ} {e : Pattern} → Whole bs e → Counting bs 0 (length bs)
-whole-counting {bs} {e} w =
-    record { records = e ∷ []; stand = (w .stand, w .end-is); ends = omega arith; short = w .short; few = omega (arith, w .few-groups) }
+-- the places that checking told are the tree's
+pub whole-places : {bs : List ℕ} {e : Pattern} {p g : ℕ} → Accepted bs p g → patternOf bs ≡ accepted e → p ≡ places e
+whole-places a found = a .places-are ∙ ap places (accepted-injective (sym (a .found) ∙ found))
 
--- its places are what was counted
-pub whole-places : {bs : List ℕ} {e : Pattern} {p g k : ℕ} → Counted bs 0 (length bs) p g k → Whole bs e → p ≡ places e
-whole-places c w = omega (arith, c .sums (whole-counting w) .places-are (omega (arith, w .few-places)))
+-- so are the groups
+pub whole-groups : {bs : List ℕ} {e : Pattern} {p g : ℕ} → Accepted bs p g → patternOf bs ≡ accepted e → g ≡ groups e
+whole-groups a found = a .groups-are ∙ ap groups (accepted-injective (sym (a .found) ∙ found))
 
--- so are its groups
-pub whole-groups : {bs : List ℕ} {e : Pattern} {p g k : ℕ} → Counted bs 0 (length bs) p g k → Whole bs e → g ≡ groups e
-whole-groups c w = omega (arith, c .sums (whole-counting w) .groups-are)
+-- both keep the limits
+pub whole-few : {bs : List ℕ} {p g : ℕ} → Accepted bs p g → (p + 1 ≤ patternPlaces) × (g ≤ patternGroups)
+whole-few {bs} a =
+    let w = pattern-stands bs (a .tree) (a .found) in
+    (omega (arith, w .few-places, a .places-are), omega (arith, w .few-groups, a .groups-are))
 
 -- its places stand from some index on, its first group is number 1
 abbrev pub whole-one : {bs : List ℕ} {e : Pattern} {p g : ℕ} (base next : ℕ) → Whole bs e → p ≡ places e → g ≡ groups e → base + p ≤ 510 → next ≤ 510

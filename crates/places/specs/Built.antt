@@ -4,17 +4,19 @@ use mathlib.Core.Path.{_≡_}
 use mathlib.Core.List.{List}
 use lib.ListN.{length, getD}
 use Rattle.paper.specs.Refusal.{accepted}
-use Rattle.paper.specs.Pattern.{Pattern, allPlaces}
+use Rattle.paper.specs.Pattern.{Pattern, places, allPlaces, groups}
 use Rattle.paper.specs.Check.{patternOf}
 use Rattle.paper.specs.Machine.{Place, placesOf}
 use Rattle.paper.specs.Match.{wrap}
 use Rattle.paper.specs.Tables.{placeNumbers, decode}
 use Rattle.places.specs.Laid.{Readable}
 
--- checking takes the pattern, and this is its tree
-pub record Accepted (pattern : List ℕ) : Type 0 where
+-- checking takes the pattern, and this is its tree, which has so many places without the accepting one, and so many groups
+pub record Accepted (pattern : List ℕ) (p g : ℕ) : Type 0 where
   pub tree : Pattern
   pub found : patternOf pattern ≡ accepted tree
+  pub places-are : p ≡ places tree
+  pub groups-are : g ≡ groups tree
 
 -- a table that holds a list of places: they are its first `count`, each in range, and behind them nothing has changed
 pub record Built (list : List Place) (count : ℕ) (pattern before after : List ℕ) : Type 0 where

@@ -642,49 +642,43 @@ fn any_star(table: &mut [u16], base: usize, mode: usize, next: usize, first: usi
     put(table, end, PlaceKind::END, base, 0, 0);
 }
 
-// Builds an accepted pattern's places for a whole match, and answers how many they are.
-pub fn build_match(pattern: &[u8], table: &mut [u16]) -> usize
-    requires { ⌜ Accepted (now pattern) ⌝ }
+// Builds an accepted pattern's places for a whole match, and answers how many they are. Checking has told the pattern's own places and its groups.
+pub fn build_match(pattern: &[u8], table: &mut [u16], places: usize, groups: usize) -> usize
+    requires { ⌜ Accepted (now pattern) places groups ⌝ }
     requires { ⌜ tableRoom ≤ length (now table) ⌝ }
     ensures { λ r. ⌜ BuiltMatch (now (pattern .entry)) (now (table .entry)) (now (table .exit)) r ⌝ }
 {
-    let stop = pattern.len();
-    let all = count(pattern, 0, stop);
-    let end = all.places;
     let part = Part {
         at: 0,
-        stop,
+        stop: pattern.len(),
         first: 1,
-        places: end,
-        groups: all.groups,
+        places,
+        groups,
     };
-    one(pattern, table, part, 0, end);
-    put(table, end, PlaceKind::ACCEPT, 0, 0, 0);
-    end + 1
+    one(pattern, table, part, 0, places);
+    put(table, places, PlaceKind::ACCEPT, 0, 0, 0);
+    places + 1
 }
 
 // Builds an accepted pattern's places for a search, with those of the wrap around it, and answers how many they are.
-pub fn build_search(pattern: &[u8], table: &mut [u16]) -> usize
-    requires { ⌜ Accepted (now pattern) ⌝ }
+pub fn build_search(pattern: &[u8], table: &mut [u16], places: usize, groups: usize) -> usize
+    requires { ⌜ Accepted (now pattern) places groups ⌝ }
     requires { ⌜ tableRoom ≤ length (now table) ⌝ }
     ensures { λ r. ⌜ BuiltSearch (now (pattern .entry)) (now (table .entry)) (now (table .exit)) r ⌝ }
 {
-    let stop = pattern.len();
-    let all = count(pattern, 0, stop);
-    let places = all.places;
     let close = 5 + places;
     let second = close + 1;
     any_star(table, 0, Pattern::LAZY, 4, 0);
     let part = Part {
         at: 0,
-        stop,
+        stop: pattern.len(),
         first: 1,
         places,
-        groups: all.groups,
+        groups,
     };
     headed(pattern, table, part, PlaceKind::OPEN, 0, 0, 4, close);
     put(table, close, PlaceKind::CLOSE, second, 0, 0);
-    any_star(table, second, Pattern::GREEDY, second + 4, all.groups + 1);
+    any_star(table, second, Pattern::GREEDY, second + 4, groups + 1);
     put(table, second + 4, PlaceKind::ACCEPT, 0, 0, 0);
     second + 5
 }

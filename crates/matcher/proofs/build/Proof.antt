@@ -1,5 +1,6 @@
 -- Checking's refusals, or the machine that building wrote.
 use mathlib.Core.Path.{refl}
+use native.Mathlib.Omega.{arith}
 use Rattle.matcher.proofs.Building.{tree-of, accepted-of, fault-of, builds-match, builds-search}
 use borrow.Author.Needs.{needs}
 use Rattle.matcher.proofs.build.Statement.{statement}
@@ -17,25 +18,37 @@ check-requires c κs = search needs
 enum-known-number : tie.Need-enum-known-number
 enum-known-number c = search needs
 
-enum-known-depth : tie.Need-enum-known-depth
-enum-known-depth c = search needs
+enum-known-told : tie.Need-enum-known-told
+enum-known-told c = search needs
+
+sub-build-search : tie.Need-sub-build-search
+sub-build-search c =
+    let the-check = c .before .before .before .before .before .check in
+    let the-told = c .before .before .before .told in
+    omega (arith, tree-of (the-check .ensures) (the-told .given .1) .all-are)
 
 build-search-requires : tie.Need-build-search-requires
 build-search-requires c κs =
     let the-check = c .before .before .before .before .before .check in
-    let the-depth = c .before .before .before .depth in
+    let the-told = c .before .before .before .told in
     let the-pre = c .before .before .before .before .before .before .before .before .pre in
-    (accepted-of (tree-of (the-check .ensures) (the-depth .given .1)), the-pre)
+    (accepted-of (tree-of (the-check .ensures) (the-told .given .1)), the-pre)
 
 search-depth-requires : tie.Need-search-depth-requires
 search-depth-requires c κs = search needs
 
+sub-build-match : tie.Need-sub-build-match
+sub-build-match c =
+    let the-check = c .before .before .before .before .before .check in
+    let the-told = c .before .before .before .told in
+    omega (arith, tree-of (the-check .ensures) (the-told .given .1) .all-are)
+
 build-match-requires : tie.Need-build-match-requires
 build-match-requires c κs =
     let the-check = c .before .before .before .before .before .check in
-    let the-depth = c .before .before .before .depth in
+    let the-told = c .before .before .before .told in
     let the-pre = c .before .before .before .before .before .before .before .before .pre in
-    (accepted-of (tree-of (the-check .ensures) (the-depth .given .1)), the-pre)
+    (accepted-of (tree-of (the-check .ensures) (the-told .given .1)), the-pre)
 
 returns : tie.Need-returns
 returns c =
@@ -55,8 +68,8 @@ returns-2 c =
     let the-if1 = c .before .before .before .before .before .if1 in
     let the-search-depth = c .search-depth in
     let the-check = c .before .before .before .before .before .before .before .before .before .check in
-    let the-depth = c .before .before .before .before .before .before .before .depth in
-    builds-search (the-args .pattern .now) (the-args .code .now) (the-build-search .last .1 .0) (λ i. the-shared-slice-known .given i .fits) the-pre (the-args .searches) (the-if1 .taken) (the-search-depth .ensures) (tree-of (the-check .ensures) (the-depth .given .1)) (the-build-search .ensures)
+    let the-told = c .before .before .before .before .before .before .before .told in
+    builds-search (the-args .pattern .now) (the-args .code .now) (the-build-search .last .1 .0) (λ i. the-shared-slice-known .given i .fits) the-pre (the-args .searches) (the-if1 .taken) (the-search-depth .ensures) (tree-of (the-check .ensures) (the-told .given .1)) (the-build-search .ensures)
 
 same-length-2 : tie.Need-same-length-2
 same-length-2 c = search needs
@@ -69,8 +82,8 @@ returns-3 c =
     let the-pre = c .before .before .before .before .before .before .before .before .before .before .before .pre in
     let the-if1 = c .before .before .before .before .if1 in
     let the-check = c .before .before .before .before .before .before .before .before .check in
-    let the-depth = c .before .before .before .before .before .before .depth in
-    builds-match (the-args .pattern .now) (the-args .code .now) (the-build-match .last .1 .0) (λ i. the-shared-slice-known .given i .fits) the-pre (the-args .searches) (the-if1 .left) (tree-of (the-check .ensures) (the-depth .given .1)) (the-build-match .ensures)
+    let the-told = c .before .before .before .before .before .before .told in
+    builds-match (the-args .pattern .now) (the-args .code .now) (the-build-match .last .1 .0) (λ i. the-shared-slice-known .given i .fits) the-pre (the-args .searches) (the-if1 .left) (tree-of (the-check .ensures) (the-told .given .1)) (the-build-match .ensures)
 
 pub build-spec : {M : Type 1} → statement M
 build-spec =
@@ -78,9 +91,11 @@ build-spec =
     (tie.spec
     check-requires
     enum-known-number
-    enum-known-depth
+    enum-known-told
+    sub-build-search
     build-search-requires
     search-depth-requires
+    sub-build-match
     build-match-requires
     returns
     same-length
