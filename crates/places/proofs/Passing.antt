@@ -69,6 +69,18 @@ begun-laid {p = p} {base = base} m ev put copy =
       laid = λ bs e ep there. copy-lays copy bs e ep (model-apart e bs _ ep (m .stands) (omega arith) (omega arith) (put .kept) there);
     }
 
+-- the head, where what would be copied stands already and leads where it should
+pub begun-there : {model p kind first g base next v : ℕ} {t t1 : List ℕ} → Begun model p kind first g base next → v ≡ entryOf p (base + 1) next
+    → Put t base kind v first g t1 → model ≡ base + 1 → next ≡ base + 1 + p → BegunLaid model p kind first g base next t t1
+begun-there {p = p} {base = base} {t1 = t1} m ev put here leads =
+    record {
+      kept = kept-both base (base + 1 + p) (put .kept) (kept-none base base t1) (omega arith) (omega arith) (omega arith) (omega arith);
+      head = λ bs. head-stands bs ev (m .head) put;
+      laid = λ bs e ep there.
+          subst (Lays t1 bs e (base + 1)) (sym leads)
+          (subst (λ (x : ℕ). Lays t1 bs e x (x + p)) here (model-apart e bs _ ep (m .stands) (omega arith) (omega arith) (put .kept) there));
+    }
+
 -- what is copied goes on to stand behind a pass that others follow
 model-stays : {model p kind first g base v : ℕ} {t t1 : List ℕ} (e : Core) (bs : List ℕ) → BegunLaid model p kind first g base v t t1
     → Model model p (base + 1) base → p ≡ size e → v ≡ base + 1 + p → Lays t bs e model (model + p) → Lays t1 bs e model (model + p)

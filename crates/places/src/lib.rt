@@ -311,6 +311,12 @@ fn begun(table: &mut [u16], pass: Pass, kind: u16, base: usize, next: usize)
         pass.first,
         pass.groups,
     );
+    if pass.model == inside {
+        if next == inside + places {
+            // The part that the others copy stands here already, and leads where it should.
+            return;
+        }
+    }
     let shift = Shift {
         from: pass.model,
         count: places,
