@@ -6,7 +6,7 @@ use mathlib.Core.Bool.{Bool, true, false, cond}
 use mathlib.Core.List.{List, [], _∷_}
 use native.Mathlib.Nat.{le-trans, mul-le-mul-left, mul-le-mul-right}
 use native.Mathlib.Omega.{arith}
-use borrow.Author.Tests.{ne-eqb}
+use borrow.Author.Tests.{ne-eqb, lt-ltb}
 use lib.Dec.{ltb}
 use lib.ListN.{length}
 use Rattle.paper.specs.Pattern.{Mode, Upper, upTo, noEnd, Pattern, Members, places, placesOfAll, groups, groupsOfAll, repeatPlaces}
@@ -303,6 +303,21 @@ adding-all {bs} {at} {stop} {from} {p} {g} {k} a le =
         → k + length es ≡ length all → Summed all p g k
     done all [] h ps gs ks = record { places-are = λ few. omega (arith, ps few); groups-are = omega arith; records-are = omega arith }
     done all (e ∷ es) h ps gs ks = absurd (omega (arith, row-long es bs _ stop (h .1)))
+
+-- a record without records inside, by itself
+pub alone-counted : {bs : List ℕ} {at stop kind own q : ℕ} → Counting bs at stop → bodyEnd bs at ≡ stop → kind ≡ kindAt bs at → kind < 3
+    → own ≡ ownPlaces bs kind (bodyStart at) 0 0 → Capped own q → Counted bs at stop q 0 1
+alone-counted {bs} {at} {stop} {kind} {own} {q} m ends ek leaf eo cut =
+    let some : at < stop = omega (arith, ends) in
+    let few : ltb (kindAt bs at) 3 ≡ true = lt-ltb (kindAt bs at) 3 (omega (arith, ek)) in
+    let at-end : insideStart (kindAt bs at) (bodyStart at) (bodyEnd bs at) ≡ bodyEnd bs at =
+    ap (λ (b : Bool). cond b (bodyEnd bs at) (cond (ltb (kindAt bs at) 6) (bodyStart at) (bodyStart at + repeatHead))) few in
+    let none = adding-all (adding-none (first-inside (first m (adding-none m) some))) (omega (arith, at-end)) in
+    let same : own ≡ ownPlaces bs (kindAt bs at) (bodyStart at) 0 0 = eo ∙ ap (λ (k : ℕ). ownPlaces bs k (bodyStart at) 0 0) ek in
+    let own-cut : Capped (0 + ownPlaces bs (kindAt bs at) (bodyStart at) 0 0) q = subst (λ (n : ℕ). Capped n q) (omega (arith, same)) cut in
+    let group-less : ownGroups (kindAt bs at) 0 ≡ 0 = ap (λ (b : Bool). cond b 1 0) (ne-eqb (kindAt bs at) 3 (λ e. omega (arith, ek))) in
+    let no-groups : 0 + ownGroups (kindAt bs at) 0 ≡ 0 = omega (arith, group-less) in
+    subst (λ (g : ℕ). Counted bs at stop q g 1) no-groups (adding-all (adding-more m (adding-none m) some none own-cut) (omega (arith, ends)))
 
 -- what stands inside a record starts behind its header
 pub inside-after : (kind start end : ℕ) → start ≤ end → start ≤ insideStart kind start end

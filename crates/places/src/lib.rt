@@ -157,6 +157,24 @@ fn counted(pattern: &[u8], at: usize, stop: usize) -> Sums
     }
 }
 
+// What one record adds up to, without a call of `count` where it has no records inside.
+fn alone(pattern: &[u8], at: usize, stop: usize) -> Sums
+    requires { ⌜ Counting (now pattern) at stop ⌝ }
+    requires { ⌜ bodyEnd (now pattern) at ≡ stop ⌝ }
+    ensures { λ r. ⌜ Counted (now (pattern .entry)) at stop (r .places) (r .groups) (r .records) ⌝ }
+{
+    let kind = number_at(pattern, at + 2);
+    if kind < Kind::GROUP {
+        let places = capped(own_places(pattern, kind, at + 4, 0, 0));
+        return Sums {
+            places,
+            groups: 0,
+            records: 1,
+        };
+    }
+    count(pattern, at, stop)
+}
+
 // The fork before an optional pass: greedy prefers the pass, lazy what follows.
 fn pass_fork(table: &mut [u16], x: usize, mode: usize, pass: usize, out: usize)
     requires { ⌜ (Fitting (now table) x pass out 0) ⌝ }
@@ -553,7 +571,7 @@ fn forked(pattern: &[u8], table: &mut [u16], part: Part, base: usize, next: usiz
     let mut from = base;
     let mut end = record_end(pattern, at);
     while end != stop {
-        let own = count(pattern, at, end);
+        let own = alone(pattern, at, end);
         let mine = own.places;
         let second = from + 1 + mine;
         let rest = left - 1 - mine;
@@ -605,7 +623,7 @@ fn chained(pattern: &[u8], table: &mut [u16], part: Part, base: usize, next: usi
     let mut from = base;
     let mut end = record_end(pattern, at);
     while end != stop {
-        let own = count(pattern, at, end);
+        let own = alone(pattern, at, end);
         let mine = own.places;
         let second = from + mine;
         let rest = left - mine;

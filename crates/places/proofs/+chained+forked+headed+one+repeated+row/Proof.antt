@@ -1,7 +1,7 @@
 -- The cycle of building: `one` calls what the kind of a record needs, and those `one` again on the records inside. The bytes between the two offsets fall.
 use borrow.Author.Needs.{needs}
 use Prim.Native.Nat.{ℕ, _+_, _-_, _*_, _<_}
-use mathlib.Core.Path.{subst, _∙_}
+use mathlib.Core.Path.{sym, subst, _∙_}
 use mathlib.Core.Bool.{Bool, true, false}
 use native.Mathlib.Omega.{arith}
 use Rattle.places.specs.Asked.{Several}
@@ -28,7 +28,7 @@ use Rattle.places.proofs.+chained+forked+headed+one+repeated+row.Lts-re
 use Rattle.places.proofs.row.Reads as row
 use Rattle.places.proofs.row.Kinds as row-kinds
 use Rattle.places.proofs.+chained+forked+headed+one+repeated+row.Lts-row as row-lts
-use Rattle.places.proofs.count.Reads as count-reads
+use Rattle.places.proofs.alone.Reads as alone-reads
 use Rattle.places.proofs.entered.Reads as entered-reads
 use Rattle.places.proofs.inner_places.Reads as inner-places-reads
 use Rattle.places.proofs.inner_start.Reads as inner-start-reads
@@ -104,7 +104,7 @@ abbrev chained-μ-loop : chained-lts.MeasureT-loop
 chained-μ-loop pattern table₀ base next stop at₀ first₀ left₀ inside₀ from₀ end₀ table at first left inside from end = stop - at
 
 abbrev chained-calls : ℕ → chained-lts.Claims
-chained-calls t = (record-end-reads.Asked, record-end-reads.Learnt, count-reads.Asked, count-reads.Learnt, entered-reads.Asked, entered-reads.Learnt, one-below t, one.Post)
+chained-calls t = (record-end-reads.Asked, record-end-reads.Learnt, alone-reads.Asked, alone-reads.Learnt, entered-reads.Asked, entered-reads.Learnt, one-below t, one.Post)
 
 chained-record-end-requires : (t : ℕ) → chained-lts.Need-record-end-requires (chained-calls t) (chained-at t) chained.Post chained-Inv-loop chained-μ-loop
 chained-record-end-requires t c κs =
@@ -118,25 +118,25 @@ chained-loop-holds t c =
     let the-record-end = c .record-end in
     along-all (the-args .table .now) (the-pre .1 .0) (the-record-end .ensures)
 
-chained-count-requires : (t : ℕ) → chained-lts.Need-count-requires (chained-calls t) (chained-at t) chained.Post chained-Inv-loop chained-μ-loop
-chained-count-requires t c κs =
+chained-alone-requires : (t : ℕ) → chained-lts.Need-alone-requires (chained-calls t) (chained-at t) chained.Post chained-Inv-loop chained-μ-loop
+chained-alone-requires t c κs =
     let the-loop = c .before .loop in
     let the-loop-test = c .loop-test in
-    more-counting (the-loop .inv .end-is) (the-loop-test .taken) (the-loop .inv .row)
+    (more-counting (the-loop .inv .end-is) (the-loop-test .taken) (the-loop .inv .row), sym (the-loop .inv .end-is))
 
 chained-add-second : (t : ℕ) → chained-lts.Need-add-second (chained-calls t) (chained-at t) chained.Post chained-Inv-loop chained-μ-loop
 chained-add-second t c =
     let the-loop = c .before .before .loop in
     let the-loop-test = c .before .loop-test in
-    let the-count = c .count in
-    omega (arith, the-loop .inv .row .room, chain-sum (the-loop .inv .end-is) (the-loop-test .taken) (the-count .ensures) (the-loop .inv .row))
+    let the-alone = c .alone in
+    omega (arith, the-loop .inv .row .room, chain-sum (the-loop .inv .end-is) (the-loop-test .taken) (the-alone .ensures) (the-loop .inv .row))
 
 chained-sub-rest : (t : ℕ) → chained-lts.Need-sub-rest (chained-calls t) (chained-at t) chained.Post chained-Inv-loop chained-μ-loop
 chained-sub-rest t c =
     let the-loop = c .before .before .loop in
     let the-loop-test = c .before .loop-test in
-    let the-count = c .count in
-    omega (arith, the-loop .inv .row .room, chain-sum (the-loop .inv .end-is) (the-loop-test .taken) (the-count .ensures) (the-loop .inv .row))
+    let the-alone = c .alone in
+    omega (arith, the-loop .inv .row .room, chain-sum (the-loop .inv .end-is) (the-loop-test .taken) (the-alone .ensures) (the-loop .inv .row))
 
 chained-entered-requires : (t : ℕ) → chained-lts.Need-entered-requires (chained-calls t) (chained-at t) chained.Post chained-Inv-loop chained-μ-loop
 chained-entered-requires t c κs = search needs
@@ -146,30 +146,30 @@ chained-one-requires t c κs =
     let the-pre = c .before .before .before .before .before .before .before .before .pre in
     let the-loop = c .before .before .before .before .loop in
     let the-loop-test = c .before .before .before .loop-test in
-    let the-count = c .before .before .count in
+    let the-alone = c .before .before .alone in
     let the-entered = c .before .entered in
-    (omega (arith, the-pre .0, the-loop .inv .passed, the-loop .inv .end-is, row-header (the-loop .inv .row)), (chain-one (the-loop .inv .end-is) (the-loop-test .taken) (the-count .ensures) (the-entered .result) (the-entered .ensures) (the-loop .inv .row), omega (arith, the-loop .inv .same-length, the-pre .1 .1)))
+    (omega (arith, the-pre .0, the-loop .inv .passed, the-loop .inv .end-is, row-header (the-loop .inv .row)), (chain-one (the-loop .inv .end-is) (the-loop-test .taken) (the-alone .ensures) (the-entered .result) (the-entered .ensures) (the-loop .inv .row), omega (arith, the-loop .inv .same-length, the-pre .1 .1)))
 
 chained-add-first : (t : ℕ) → chained-lts.Need-add-first (chained-calls t) (chained-at t) chained.Post chained-Inv-loop chained-μ-loop
 chained-add-first t c =
     let the-loop = c .before .before .before .before .before .before .before .before .loop in
     let the-loop-test = c .before .before .before .before .before .before .before .loop-test in
-    let the-count = c .before .before .before .before .before .before .count in
-    omega (arith, more-few (the-loop .inv .end-is) (the-loop-test .taken) (the-count .ensures) (the-loop .inv .row))
+    let the-alone = c .before .before .before .before .before .before .alone in
+    omega (arith, more-few (the-loop .inv .end-is) (the-loop-test .taken) (the-alone .ensures) (the-loop .inv .row))
 
 chained-sub-inside : (t : ℕ) → chained-lts.Need-sub-inside (chained-calls t) (chained-at t) chained.Post chained-Inv-loop chained-μ-loop
 chained-sub-inside t c =
     let the-loop = c .before .before .before .before .before .before .before .before .before .loop in
     let the-loop-test = c .before .before .before .before .before .before .before .before .loop-test in
-    let the-count = c .before .before .before .before .before .before .before .count in
-    more-inside (the-loop .inv .end-is) (the-loop-test .taken) (the-count .ensures) (the-loop .inv .row)
+    let the-alone = c .before .before .before .before .before .before .before .alone in
+    more-inside (the-loop .inv .end-is) (the-loop-test .taken) (the-alone .ensures) (the-loop .inv .row)
 
 chained-record-end-requires-2 : (t : ℕ) → chained-lts.Need-record-end-requires-2 (chained-calls t) (chained-at t) chained.Post chained-Inv-loop chained-μ-loop
 chained-record-end-requires-2 t c κs =
     let the-loop = c .before .before .before .before .before .before .before .before .before .loop in
     let the-loop-test = c .before .before .before .before .before .before .before .before .loop-test in
-    let the-count = c .before .before .before .before .before .before .before .count in
-    (omega (arith, row-header (chain-rest (the-loop .inv .end-is) (the-loop-test .taken) (the-count .ensures) (the-loop .inv .row)), the-loop .inv .row .ends), the-loop .inv .row .short)
+    let the-alone = c .before .before .before .before .before .before .before .alone in
+    (omega (arith, row-header (chain-rest (the-loop .inv .end-is) (the-loop-test .taken) (the-alone .ensures) (the-loop .inv .row)), the-loop .inv .row .ends), the-loop .inv .row .short)
 
 chained-loop-less : (t : ℕ) → chained-lts.Need-loop-less (chained-calls t) (chained-at t) chained.Post chained-Inv-loop chained-μ-loop
 chained-loop-less t c =
@@ -180,11 +180,11 @@ chained-loop-again : (t : ℕ) → chained-lts.Need-loop-again (chained-calls t)
 chained-loop-again t c =
     let the-loop = c .before .before .before .before .before .before .before .before .before .before .loop in
     let the-loop-test = c .before .before .before .before .before .before .before .before .before .loop-test in
-    let the-count = c .before .before .before .before .before .before .before .before .count in
+    let the-alone = c .before .before .before .before .before .before .before .before .alone in
     let the-entered = c .before .before .before .before .before .before .before .entered in
     let the-one = c .before .before .before .before .before .one in
     let the-record-end2 = c .record-end2 in
-    along-chain (the-loop .inv) (the-loop-test .taken) (the-count .ensures) (the-entered .ensures) (the-one .ensures) (the-record-end2 .ensures)
+    along-chain (the-loop .inv) (the-loop-test .taken) (the-alone .ensures) (the-entered .ensures) (the-one .ensures) (the-record-end2 .ensures)
 
 chained-one-requires-2 : (t : ℕ) → chained-lts.Need-one-requires-2 (chained-calls t) (chained-at t) chained.Post chained-Inv-loop chained-μ-loop
 chained-one-requires-2 t c κs =
@@ -214,7 +214,7 @@ abbrev forked-μ-loop : forked-lts.MeasureT-loop
 forked-μ-loop pattern table₀ base next stop at₀ first₀ left₀ inside₀ from₀ end₀ table at first left inside from end = stop - at
 
 abbrev forked-calls : ℕ → forked-lts.Claims
-forked-calls t = (record-end-reads.Asked, record-end-reads.Learnt, count-reads.Asked, count-reads.Learnt, entered-reads.Asked, entered-reads.Learnt, put-reads.Asked, put-reads.Learnt, one-below t, one.Post)
+forked-calls t = (record-end-reads.Asked, record-end-reads.Learnt, alone-reads.Asked, alone-reads.Learnt, entered-reads.Asked, entered-reads.Learnt, put-reads.Asked, put-reads.Learnt, one-below t, one.Post)
 
 forked-record-end-requires : (t : ℕ) → forked-lts.Need-record-end-requires (forked-calls t) (forked-at t) forked.Post forked-Inv-loop forked-μ-loop
 forked-record-end-requires t c κs =
@@ -228,39 +228,39 @@ forked-loop-holds t c =
     let the-record-end = c .record-end in
     along-all (the-args .table .now) (the-pre .1 .0) (the-record-end .ensures)
 
-forked-count-requires : (t : ℕ) → forked-lts.Need-count-requires (forked-calls t) (forked-at t) forked.Post forked-Inv-loop forked-μ-loop
-forked-count-requires t c κs =
+forked-alone-requires : (t : ℕ) → forked-lts.Need-alone-requires (forked-calls t) (forked-at t) forked.Post forked-Inv-loop forked-μ-loop
+forked-alone-requires t c κs =
     let the-loop = c .before .loop in
     let the-loop-test = c .loop-test in
-    more-counting (the-loop .inv .end-is) (the-loop-test .taken) (the-loop .inv .row)
+    (more-counting (the-loop .inv .end-is) (the-loop-test .taken) (the-loop .inv .row), sym (the-loop .inv .end-is))
 
 forked-add-second : (t : ℕ) → forked-lts.Need-add-second (forked-calls t) (forked-at t) forked.Post forked-Inv-loop forked-μ-loop
 forked-add-second t c =
     let the-loop = c .before .before .loop in
     let the-loop-test = c .before .loop-test in
-    let the-count = c .count in
-    omega (arith, the-loop .inv .row .room, fork-sum (the-loop .inv .end-is) (the-loop-test .taken) (the-count .ensures) (the-loop .inv .row))
+    let the-alone = c .alone in
+    omega (arith, the-loop .inv .row .room, fork-sum (the-loop .inv .end-is) (the-loop-test .taken) (the-alone .ensures) (the-loop .inv .row))
 
 forked-add-second-2 : (t : ℕ) → forked-lts.Need-add-second-2 (forked-calls t) (forked-at t) forked.Post forked-Inv-loop forked-μ-loop
 forked-add-second-2 t c =
     let the-loop = c .before .before .loop in
     let the-loop-test = c .before .loop-test in
-    let the-count = c .count in
-    omega (arith, the-loop .inv .row .room, fork-sum (the-loop .inv .end-is) (the-loop-test .taken) (the-count .ensures) (the-loop .inv .row))
+    let the-alone = c .alone in
+    omega (arith, the-loop .inv .row .room, fork-sum (the-loop .inv .end-is) (the-loop-test .taken) (the-alone .ensures) (the-loop .inv .row))
 
 forked-sub-rest : (t : ℕ) → forked-lts.Need-sub-rest (forked-calls t) (forked-at t) forked.Post forked-Inv-loop forked-μ-loop
 forked-sub-rest t c =
     let the-loop = c .before .before .loop in
     let the-loop-test = c .before .loop-test in
-    let the-count = c .count in
-    omega (arith, the-loop .inv .row .room, fork-sum (the-loop .inv .end-is) (the-loop-test .taken) (the-count .ensures) (the-loop .inv .row))
+    let the-alone = c .alone in
+    omega (arith, the-loop .inv .row .room, fork-sum (the-loop .inv .end-is) (the-loop-test .taken) (the-alone .ensures) (the-loop .inv .row))
 
 forked-sub-rest-2 : (t : ℕ) → forked-lts.Need-sub-rest-2 (forked-calls t) (forked-at t) forked.Post forked-Inv-loop forked-μ-loop
 forked-sub-rest-2 t c =
     let the-loop = c .before .before .loop in
     let the-loop-test = c .before .loop-test in
-    let the-count = c .count in
-    omega (arith, the-loop .inv .row .room, fork-sum (the-loop .inv .end-is) (the-loop-test .taken) (the-count .ensures) (the-loop .inv .row))
+    let the-alone = c .alone in
+    omega (arith, the-loop .inv .row .room, fork-sum (the-loop .inv .end-is) (the-loop-test .taken) (the-alone .ensures) (the-loop .inv .row))
 
 forked-add-entered : (t : ℕ) → forked-lts.Need-add-entered (forked-calls t) (forked-at t) forked.Post forked-Inv-loop forked-μ-loop
 forked-add-entered t c =
@@ -277,11 +277,11 @@ forked-put-requires : (t : ℕ) → forked-lts.Need-put-requires (forked-calls t
 forked-put-requires t c κs =
     let the-loop = c .before .before .before .before .before .loop in
     let the-loop-test = c .before .before .before .before .loop-test in
-    let the-count = c .before .before .before .count in
+    let the-alone = c .before .before .before .alone in
     let the-entered = c .before .before .entered in
     let the-entered2 = c .entered2 in
     let the-pre = c .before .before .before .before .before .before .before .before .before .pre in
-    fork-fits (the-loop .inv) (the-loop-test .taken) (the-count .ensures) (the-entered .ensures) (the-entered2 .ensures) (the-pre .1 .1)
+    fork-fits (the-loop .inv) (the-loop-test .taken) (the-alone .ensures) (the-entered .ensures) (the-entered2 .ensures) (the-pre .1 .1)
 
 forked-add-one : (t : ℕ) → forked-lts.Need-add-one (forked-calls t) (forked-at t) forked.Post forked-Inv-loop forked-μ-loop
 forked-add-one t c =
@@ -293,30 +293,30 @@ forked-one-requires t c κs =
     let the-pre = c .before .before .before .before .before .before .before .before .before .before .before .before .before .pre in
     let the-loop = c .before .before .before .before .before .before .before .before .before .loop in
     let the-loop-test = c .before .before .before .before .before .before .before .before .loop-test in
-    let the-count = c .before .before .before .before .before .before .before .count in
+    let the-alone = c .before .before .before .before .before .before .before .alone in
     let the-put = c .before .before .before .put in
-    (omega (arith, the-pre .0, the-loop .inv .passed, the-loop .inv .end-is, row-header (the-loop .inv .row)), (fork-one (the-loop .inv .end-is) (the-loop-test .taken) (the-count .ensures) (the-loop .inv .row), omega (arith, the-put .ensures .kept .same-length, the-loop .inv .same-length, the-pre .1 .1)))
+    (omega (arith, the-pre .0, the-loop .inv .passed, the-loop .inv .end-is, row-header (the-loop .inv .row)), (fork-one (the-loop .inv .end-is) (the-loop-test .taken) (the-alone .ensures) (the-loop .inv .row), omega (arith, the-put .ensures .kept .same-length, the-loop .inv .same-length, the-pre .1 .1)))
 
 forked-add-first : (t : ℕ) → forked-lts.Need-add-first (forked-calls t) (forked-at t) forked.Post forked-Inv-loop forked-μ-loop
 forked-add-first t c =
     let the-loop = c .before .before .before .before .before .before .before .before .before .before .before .before .before .loop in
     let the-loop-test = c .before .before .before .before .before .before .before .before .before .before .before .before .loop-test in
-    let the-count = c .before .before .before .before .before .before .before .before .before .before .before .count in
-    omega (arith, more-few (the-loop .inv .end-is) (the-loop-test .taken) (the-count .ensures) (the-loop .inv .row))
+    let the-alone = c .before .before .before .before .before .before .before .before .before .before .before .alone in
+    omega (arith, more-few (the-loop .inv .end-is) (the-loop-test .taken) (the-alone .ensures) (the-loop .inv .row))
 
 forked-sub-inside : (t : ℕ) → forked-lts.Need-sub-inside (forked-calls t) (forked-at t) forked.Post forked-Inv-loop forked-μ-loop
 forked-sub-inside t c =
     let the-loop = c .before .before .before .before .before .before .before .before .before .before .before .before .before .before .loop in
     let the-loop-test = c .before .before .before .before .before .before .before .before .before .before .before .before .before .loop-test in
-    let the-count = c .before .before .before .before .before .before .before .before .before .before .before .before .count in
-    more-inside (the-loop .inv .end-is) (the-loop-test .taken) (the-count .ensures) (the-loop .inv .row)
+    let the-alone = c .before .before .before .before .before .before .before .before .before .before .before .before .alone in
+    more-inside (the-loop .inv .end-is) (the-loop-test .taken) (the-alone .ensures) (the-loop .inv .row)
 
 forked-record-end-requires-2 : (t : ℕ) → forked-lts.Need-record-end-requires-2 (forked-calls t) (forked-at t) forked.Post forked-Inv-loop forked-μ-loop
 forked-record-end-requires-2 t c κs =
     let the-loop = c .before .before .before .before .before .before .before .before .before .before .before .before .before .before .loop in
     let the-loop-test = c .before .before .before .before .before .before .before .before .before .before .before .before .before .loop-test in
-    let the-count = c .before .before .before .before .before .before .before .before .before .before .before .before .count in
-    (omega (arith, row-header (fork-rest (the-loop .inv .end-is) (the-loop-test .taken) (the-count .ensures) (the-loop .inv .row)), the-loop .inv .row .ends), the-loop .inv .row .short)
+    let the-alone = c .before .before .before .before .before .before .before .before .before .before .before .before .alone in
+    (omega (arith, row-header (fork-rest (the-loop .inv .end-is) (the-loop-test .taken) (the-alone .ensures) (the-loop .inv .row)), the-loop .inv .row .ends), the-loop .inv .row .short)
 
 forked-loop-less : (t : ℕ) → forked-lts.Need-loop-less (forked-calls t) (forked-at t) forked.Post forked-Inv-loop forked-μ-loop
 forked-loop-less t c =
@@ -327,13 +327,13 @@ forked-loop-again : (t : ℕ) → forked-lts.Need-loop-again (forked-calls t) (f
 forked-loop-again t c =
     let the-loop = c .before .before .before .before .before .before .before .before .before .before .before .before .before .before .before .loop in
     let the-loop-test = c .before .before .before .before .before .before .before .before .before .before .before .before .before .before .loop-test in
-    let the-count = c .before .before .before .before .before .before .before .before .before .before .before .before .before .count in
+    let the-alone = c .before .before .before .before .before .before .before .before .before .before .before .before .before .alone in
     let the-entered = c .before .before .before .before .before .before .before .before .before .before .before .before .entered in
     let the-entered2 = c .before .before .before .before .before .before .before .before .before .before .entered2 in
     let the-put = c .before .before .before .before .before .before .before .before .before .put in
     let the-one = c .before .before .before .before .before .one in
     let the-record-end2 = c .record-end2 in
-    along-fork (the-loop .inv) (the-loop-test .taken) (the-count .ensures) (the-entered .ensures) (the-entered2 .ensures) (the-put .ensures) (the-one .ensures) (the-record-end2 .ensures)
+    along-fork (the-loop .inv) (the-loop-test .taken) (the-alone .ensures) (the-entered .ensures) (the-entered2 .ensures) (the-put .ensures) (the-one .ensures) (the-record-end2 .ensures)
 
 forked-one-requires-2 : (t : ℕ) → forked-lts.Need-one-requires-2 (forked-calls t) (forked-at t) forked.Post forked-Inv-loop forked-μ-loop
 forked-one-requires-2 t c κs =
@@ -741,8 +741,8 @@ pub +chained+forked+headed+one+repeated+row-spec : {M : Type 1} → statement M
     close μ-chained μ-forked μ-headed μ-one μ-repeated μ-row (λ t. chained-lts.spec (
       record-end-reads.Asked,
       record-end-reads.Learnt,
-      count-reads.Asked,
-      count-reads.Learnt,
+      alone-reads.Asked,
+      alone-reads.Learnt,
       entered-reads.Asked,
       entered-reads.Learnt,
       one-below t,
@@ -754,7 +754,7 @@ pub +chained+forked+headed+one+repeated+row-spec : {M : Type 1} → statement M
     chained-μ-loop
     (chained-record-end-requires t)
     (chained-loop-holds t)
-    (chained-count-requires t)
+    (chained-alone-requires t)
     (chained-add-second t)
     (chained-sub-rest t)
     (chained-entered-requires t)
@@ -770,8 +770,8 @@ pub +chained+forked+headed+one+repeated+row-spec : {M : Type 1} → statement M
     (λ t. forked-lts.spec (
       record-end-reads.Asked,
       record-end-reads.Learnt,
-      count-reads.Asked,
-      count-reads.Learnt,
+      alone-reads.Asked,
+      alone-reads.Learnt,
       entered-reads.Asked,
       entered-reads.Learnt,
       put-reads.Asked,
@@ -785,7 +785,7 @@ pub +chained+forked+headed+one+repeated+row-spec : {M : Type 1} → statement M
     forked-μ-loop
     (forked-record-end-requires t)
     (forked-loop-holds t)
-    (forked-count-requires t)
+    (forked-alone-requires t)
     (forked-add-second t)
     (forked-add-second-2 t)
     (forked-sub-rest t)
