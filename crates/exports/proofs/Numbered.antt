@@ -15,7 +15,7 @@ use Rattle.paper.specs.Rows.{Rows, rowStart, rowEnd}
 use Rattle.paper.specs.Match.{wholeMatch, search, matchSteps, searchSteps, lineAndTable, counted, Found, matchCall, searchCall, told}
 use Rattle.paper.specs.Template.{Piece, literal, reference, literalKind, referenceKind, literalAt, referenceAt, pieceOfKind, pieceAt, piecesFrom, templateOf, within}
 use Rattle.paper.specs.Replace.{replaceAll, replaceCall, Replaced, replaceAnswer}
-use Rattle.paper.specs.Piece.{isAbsent, spanOf, spanAt, rowSpan, pieceCall, Span, fromLine}
+use Rattle.paper.specs.PieceCalls.{isAbsent, spanOf, spanAt, rowSpan, pieceCall, Span, fromLine}
 use lib.Dec.{leb, ltb, eqb}
 use lib.ListN.{length}
 use Rattle.exports.specs.Told.{Numbered}
@@ -209,4 +209,4 @@ replacing-named pattern template line buffer =
 pub replace-numbered : (pattern template line buffer : List ℕ) → Numbered (replaceAnswer (replaceCall pattern template line buffer))
 replace-numbered pattern template line buffer =
     then (replacing-named pattern template line buffer)
-    (λ s. yes {A = Replaced} {a = record { length = length (s .output); replaced = s .replaced; steps = s .steps }}) .numbered
+    (λ s. yes {A = Replaced} {a = record { outputLength = length (s .output); replaced = s .replaced; steps = s .steps }}) .numbered

@@ -5,7 +5,7 @@ use mathlib.Core.Bool.{Bool}
 use mathlib.Core.List.{List, [], _∷_}
 use lib.ListN.{length}
 use Rattle.paper.specs.Refusal.{Checked, refused, accepted}
-use Rattle.paper.specs.Piece.{pieceCall}
+use Rattle.paper.specs.PieceCalls.{pieceCall}
 use Rattle.pattern.specs.declared.Answer as checking
 use Rattle.pattern.specs.Answer.{answerOf, Checks}
 use Rattle.matcher.specs.declared.Answer as matching

@@ -8,7 +8,7 @@ use Rattle.paper.specs.Refusal.{Checked, refused, accepted, _>>=_}
 use Rattle.paper.specs.Check.{Numbers}
 use Rattle.paper.specs.Match.{Told}
 use Rattle.paper.specs.Replace.{Replaced}
-use Rattle.paper.specs.Piece.{Source, fromTemplate, fromLine, Span}
+use Rattle.paper.specs.PieceCalls.{Source, fromTemplate, fromLine, Span}
 
 -- the status of a call that was not refused, and of one whose lent memory is too short
 abbrev pub answered : ℕ
@@ -65,4 +65,4 @@ spanNumbers answer = answer >>= λ s. accepted (sourceNumber (s .source) ∷ s .
 
 -- the output's length, the replacements and the steps
 abbrev pub replacedNumbers : Checked Replaced → Checked (List ℕ)
-replacedNumbers answer = answer >>= λ s. accepted (s .length ∷ s .replaced ∷ s .steps ∷ [])
+replacedNumbers answer = answer >>= λ s. accepted (s .outputLength ∷ s .replaced ∷ s .steps ∷ [])

@@ -1,5 +1,5 @@
 -- The whole call: its refusals in their order and what it answers otherwise, one law a way out; and the promises allow one answer and one table only.
-use Prim.Native.Nat.{ℕ, _+_, _*_, max, _≤_, _<_}
+use Prim.Native.Nat.{ℕ, _+_, _≤_, _<_}
 use native.Mathlib.Omega.{arith}
 use mathlib.Core.Path.{_≡_, refl, sym, ap, ap₂, subst, _∙_}
 use mathlib.Core.Bool.{Bool, true, false}
@@ -10,12 +10,13 @@ use lib.ListN.{length, drop}
 use borrow.Author.Tests.{le-leb, lt-leb}
 use Rattle.paper.specs.Limits.{lineBytes, tableNumbers, stepLimit}
 use Rattle.paper.specs.Refusal.{Checked, refused, accepted, _>>=_, _>>_, holds, lineTooLong, tableTooShort, tooManySteps}
-use Rattle.paper.specs.Pattern.{Pattern, allPlaces, depth}
+use Rattle.paper.specs.Pattern.{Pattern}
 use Rattle.paper.specs.Layout.{Lawful}
 use Rattle.paper.specs.Check.{patternOf}
 use Rattle.paper.specs.Rows.{Rows}
 use Rattle.paper.specs.Match.{wholeMatch, search, matchSteps, searchSteps, Found, lineAndTable, counted, matchCall, searchCall, isMatch, tableAfter, Told, told}
-use Rattle.paper.proofs.Bound.{steps-bound, search-bound, mostSteps, most-told, match-steps, search-steps, counted-told}
+use Rattle.paper.specs.Bounds.{matchBound, searchBound, mostSteps}
+use Rattle.paper.proofs.machine.Bound.{steps-bound, search-bound, most-told, match-steps, search-steps, counted-told}
 use Rattle.matcher.specs.declared.Answer.{Answer}
 use Rattle.matcher.specs.declared.Answer.the-variants.{Refused, Match, NoMatch}
 use Rattle.matcher.specs.Answer.{answerOf, stepsTold, TellsSteps}
@@ -99,18 +100,18 @@ few-steps : (searches : Bool) (e : Pattern) (line : List ℕ) → Lawful e → l
 few-steps false e line lawful short = match-steps e line lawful short
 few-steps true e line lawful short = search-steps e line lawful short
 
-abbrev mostOf : Bool → Pattern → ℕ
-mostOf false e = allPlaces e * (depth e + 1)
-mostOf true e = (allPlaces e + 10) * (max 1 (depth e) + 1)
+abbrev boundOf : Bool → Pattern → ℕ → ℕ
+boundOf false e n = matchBound e n
+boundOf true e n = searchBound e n
 
-found-bound : (searches : Bool) (e : Pattern) (line : List ℕ) → foundOf searches e line .steps ≤ mostOf searches e * (length line + 1)
+found-bound : (searches : Bool) (e : Pattern) (line : List ℕ) → foundOf searches e line .steps ≤ boundOf searches e (length line)
 found-bound false e line = steps-bound e 1 line
 found-bound true e line = search-bound e line
 
 -- the promise out of its parts
 promised : (searches : Bool) (pattern line lent : List ℕ) (r : Answer) (after : List ℕ) → answerOf r ≡ told (callOf searches pattern line lent)
     → after ≡ tableAfter (callOf searches pattern line lent) lent
-    → ((e : Pattern) → patternOf pattern ≡ accepted e → stepsTold r ≤ mostOf searches e * (length line + 1)) → Answers searches pattern line lent r after
+    → ((e : Pattern) → patternOf pattern ≡ accepted e → stepsTold r ≤ boundOf searches e (length line)) → Answers searches pattern line lent r after
 promised false pattern line lent r after answer table bound = record { answer = answer; table = table; bound = bound }
 promised true pattern line lent r after answer table bound = record { answer = answer; table = table; bound = bound }
 

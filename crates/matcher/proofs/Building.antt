@@ -9,8 +9,8 @@ use Rattle.paper.specs.Refusal.{Checked, refused, accepted, _>>=_}
 use Rattle.paper.specs.Pattern.{Pattern, allPlaces, depth, groups}
 use Rattle.paper.specs.Check.{patternOf, Numbers, numbersOf}
 use Rattle.paper.specs.Machine.{placesOf}
-use Rattle.paper.proofs.Lawful.{accepted-lawful}
-use Rattle.paper.proofs.Sizes.{places-wrap, depth-wrap}
+use Rattle.paper.proofs.layout.Lawful.{accepted-lawful}
+use Rattle.paper.proofs.machine.Sizes.{places-wrap, depth-wrap}
 use Rattle.pattern.specs.declared.Answer.{Answer}
 use Rattle.pattern.specs.declared.Answer.the-variants.{Accepted}
 use Rattle.pattern.specs.Answer.{answerOf, Checks}

@@ -1,15 +1,15 @@
 -- What the promises shut out: answers that look safe and say nothing. Each is false of a named input, because the definitions' answer there is computed.
-use Prim.Native.Nat.{ℕ, _+_, _*_}
+use Prim.Native.Nat.{ℕ}
 use native.Mathlib.Omega.{arith}
 use mathlib.Core.Path.{_≡_, refl, sym, ap}
 use mathlib.Core.Bool.{Bool, true, false, true≢false}
 use mathlib.Core.List.{List, [], _∷_}
 use lib.ListN.{length, getD}
 use Rattle.paper.specs.Refusal.{Checked, refused, accepted, _>>=_}
-use Rattle.paper.specs.Pattern.{allPlaces, depth}
+use Rattle.paper.specs.Bounds.{matchBound}
 use Rattle.paper.specs.Check.{patternOf}
 use Rattle.paper.specs.Match.{Told}
-use Rattle.paper.proofs.Known.{lent}
+use Rattle.paper.proofs.known.Known.{lent}
 use Rattle.matcher.specs.declared.Answer.{Answer}
 use Rattle.matcher.specs.declared.Answer.the-variants.{Refused, Match, NoMatch}
 use Rattle.matcher.specs.Promise.{Matches, Searches}
@@ -63,7 +63,7 @@ table-untouched-searches r p = one-not-zero (ap (λ (l : List ℕ). getD l 0 0) 
 
 -- One that reports the bound as its count: on case 5 the bound is 10, and there are 4 steps
 
-pub bound-is-ten : (patternOf manyA >>= λ e. accepted (allPlaces e * (depth e + 1) * (length {A = ℕ} [] + 1))) ≡ accepted 10
+pub bound-is-ten : (patternOf manyA >>= λ e. accepted (matchBound e (length {A = ℕ} []))) ≡ accepted 10
 bound-is-ten = refl
 
 ten-not-four : _≡_ {A = ℕ} 10 4 → ⊥

@@ -15,9 +15,9 @@ use Rattle.paper.specs.Check.{patternOf}
 use Rattle.paper.specs.Rows.{Rows, noRows, setRow}
 use Rattle.paper.specs.Machine.{Place, at, Stopped, matched, unmatched, run, pairs, machine, stepsOf, rowsOf}
 use Rattle.paper.specs.Match.{withRow0, wholeMatch, wrap, search, matchSteps, searchSteps}
-use Rattle.paper.specs.Replace.{movedBy, moved}
-use Rattle.paper.proofs.MachineReads.{machine-matches, machine-searches}
-use Rattle.paper.proofs.MovedMachine.{movedStopped, steps-moved, rows-moved, machine-moved}
+use Rattle.paper.specs.Replace.{movedBy, moved, movedStopped}
+use Rattle.paper.proofs.machine.MachineReads.{machine-matches, machine-searches}
+use Rattle.paper.proofs.machine.MovedMachine.{steps-moved, rows-moved, machine-moved}
 use Rattle.visit.specs.Wired.{Wired}
 use Rattle.run.specs.Steps.{Running, stoppedAs, Runs}
 use Rattle.matcher.specs.Machine.{wrapped, firstGroup, Ready, listsNumbers, pendingNumbers, RunsFrom, Gives, OrNone}

@@ -13,9 +13,9 @@ use Rattle.paper.specs.Pattern.{Pattern, allPlaces, depth, groups}
 use Rattle.paper.specs.Layout.{Lawful}
 use Rattle.paper.specs.Machine.{Place, stop, placesOf, pairs}
 use Rattle.paper.specs.Tables.{stopPlace, beginOptionalPlace, endPlace, placeNumbers, placeOf, placeAt, decode}
-use Rattle.paper.proofs.Sizes.{places-wrap, depth-wrap, depth-levels}
-use Rattle.paper.proofs.Static.{Static, deepAt, deep-most, places-static}
-use Rattle.paper.proofs.Nested.{Forward, places-forward}
+use Rattle.paper.proofs.machine.Sizes.{places-wrap, depth-wrap, depth-levels}
+use Rattle.paper.proofs.machine.Static.{Static, deepAt, deep-most, places-static}
+use Rattle.paper.proofs.machine.Nested.{Forward, places-forward}
 use Rattle.visit.specs.Wired.{kindAt, nextAt, firstAt, manyAt, Slots, Wired}
 use Rattle.visit.proofs.Cells.{decode-at}
 use Rattle.places.specs.Laid.{Readable}

@@ -6,7 +6,7 @@ use lib.Dec.{leb}
 use Rattle.paper.specs.Refusal.{Checked, refused, accepted, _>>_, holds, tooManySteps}
 use Rattle.paper.specs.Limits.{stepLimit}
 use Rattle.paper.specs.Match.{Told}
-use Rattle.paper.proofs.Bound.{mostSteps}
+use Rattle.paper.specs.Bounds.{mostSteps}
 use Rattle.matcher.specs.declared.Answer.{Answer}
 use Rattle.matcher.specs.declared.Answer.the-variants.{Refused, Match, NoMatch}
 

@@ -15,8 +15,7 @@ use Rattle.paper.specs.Rows.{Rows, noRows}
 use Rattle.paper.specs.Machine.{placesOf, machine}
 use Rattle.paper.specs.Match.{wrap, wholeMatch, search, matchSteps, searchSteps, isMatch, rowsOrNone}
 use Rattle.paper.specs.Tables.{placeNumbers, decode}
-use Rattle.paper.specs.Replace.{moved}
-use Rattle.paper.proofs.MovedMachine.{movedStopped}
+use Rattle.paper.specs.Replace.{moved, movedStopped}
 use Rattle.visit.specs.Threads.{threadNumbers, branchNumbers}
 use Rattle.run.specs.Steps.{stoppedAs}
 use Rattle.places.specs.Laid.{Readable}

@@ -40,7 +40,7 @@ kindAmong (k ∷ ks) number at = cond (eqb number (kindNumber k)) (accepted k) (
 
 -- Refusals 2: at each record first 2, where its header or its body runs past its holder (a body's end is past its header), then 3
 abbrev pub header : List ℕ → ℕ → ℕ → Checked Kind
-header bs at stop = holds (leb (bodyEnd bs at) stop) brokenRecord at >> kindAmong kinds (kindAt bs at) at
+header bs at holderEnd = holds (leb (bodyEnd bs at) holderEnd) brokenRecord at >> kindAmong kinds (kindAt bs at) at
 
 -- Refusals 2: kinds 0 and 1 with a body are 2 at that record
 abbrev pub bare : Pattern → List ℕ → ℕ → Checked Pattern
@@ -89,17 +89,17 @@ Walk = ℕ → ℕ → ℕ → Checked Pattern
 
 -- Refusals 2: the single record inside a group or a repeat, walked from `start`; what is left over behind it is 2 at the holder
 abbrev pub single : Walk → List ℕ → ℕ → ℕ → ℕ → Checked Pattern
-single walk bs at start before =
-    walk start (bodyEnd bs at) before >>= λ e.
+single walk bs at start groupsBefore =
+    walk start (bodyEnd bs at) groupsBefore >>= λ e.
     holds (eqb (bodyEnd bs start) (bodyEnd bs at)) brokenRecord at >> accepted e
 
 -- Refusals 2: the records from an offset up to the end of their holder, left to right. Each turn takes a byte at least, so as many turns as bytes are enough
 abbrev pub walkAll : ℕ → Walk → List ℕ → ℕ → ℕ → ℕ → Checked (List Pattern)
-walkAll zero walk bs at stop before = accepted []
-walkAll (suc turns) walk bs at stop before =
-    cond (ltb at stop)
-    (walk at stop before >>= λ e.
-    walkAll turns walk bs (bodyEnd bs at) stop (before + groups e) >>= λ es.
+walkAll zero walk bs at holderEnd groupsBefore = accepted []
+walkAll (suc turns) walk bs at holderEnd groupsBefore =
+    cond (ltb at holderEnd)
+    (walk at holderEnd groupsBefore >>= λ e.
+    walkAll turns walk bs (bodyEnd bs at) holderEnd (groupsBefore + groups e) >>= λ es.
     accepted (e ∷ es))
     (accepted [])
 
@@ -114,33 +114,33 @@ atLeastTwo (a ∷ []) at = refused brokenRecord at
 atLeastTwo (a ∷ b ∷ rest) at = accepted (membersFrom a b rest)
 
 abbrev pub several : Walk → List ℕ → ℕ → ℕ → Checked Members
-several walk bs at before =
-    walkAll (bodyLength bs at) walk bs (bodyStart at) (bodyEnd bs at) before >>= λ es.
+several walk bs at groupsBefore =
+    walkAll (bodyLength bs at) walk bs (bodyStart at) (bodyEnd bs at) groupsBefore >>= λ es.
     atLeastTwo es at
 
 -- Refusals 2: a record's own body by its kind, then 7, then what it holds
 abbrev pub body : Kind → Walk → List ℕ → ℕ → ℕ → Checked Pattern
-body nothingKind walk bs at before = bare nothing bs at
-body emptyKind walk bs at before = bare empty bs at
-body bytesKind walk bs at before = byteSet bs at
-body groupKind walk bs at before =
-    holds (ltb before patternGroups) tooManyGroups at >>
-    (single walk bs at (bodyStart at) (before + 1) >>= λ e. accepted (group e))
-body sequenceKind walk bs at before = several walk bs at before >>= λ ms. accepted (sequence ms)
-body alternationKind walk bs at before = several walk bs at before >>= λ ms. accepted (alternation ms)
-body repeatKind walk bs at before =
+body nothingKind walk bs at groupsBefore = bare nothing bs at
+body emptyKind walk bs at groupsBefore = bare empty bs at
+body bytesKind walk bs at groupsBefore = byteSet bs at
+body groupKind walk bs at groupsBefore =
+    holds (ltb groupsBefore patternGroups) tooManyGroups at >>
+    (single walk bs at (bodyStart at) (groupsBefore + 1) >>= λ e. accepted (group e))
+body sequenceKind walk bs at groupsBefore = several walk bs at groupsBefore >>= λ ms. accepted (sequence ms)
+body alternationKind walk bs at groupsBefore = several walk bs at groupsBefore >>= λ ms. accepted (alternation ms)
+body repeatKind walk bs at groupsBefore =
     let start = bodyStart at in
     let least = numberAt bs start in
     let most = numberAt bs (start + 2) in
     let mode = numberAt bs (start + 4) in
     holds (leb repeatHead (bodyLength bs at)) brokenRecord at >>
     (holds (repeatNumbersRight least most mode) repeatWrong at >>
-    (single walk bs at (start + repeatHead) before >>= λ e. accepted (repeat least (upperOf most) (modeOf mode) e)))
+    (single walk bs at (start + repeatHead) groupsBefore >>= λ e. accepted (repeat least (upperOf most) (modeOf mode) e)))
 
 -- Refusals 2 and Patterns 4: the walk of one record, with so many levels left for it and what it holds
 abbrev pub walkRecord : ℕ → List ℕ → Walk
-walkRecord zero bs at stop before = header bs at stop >>= λ kind. refused tooDeep at
-walkRecord (suc left) bs at stop before = header bs at stop >>= λ kind. body kind (walkRecord left bs) bs at before
+walkRecord zero bs at holderEnd groupsBefore = header bs at holderEnd >>= λ kind. refused tooDeep at
+walkRecord (suc left) bs at holderEnd groupsBefore = header bs at holderEnd >>= λ kind. body kind (walkRecord left bs) bs at groupsBefore
 
 -- Refusals 1 and 2: refusals 1 to 8 of a pattern in their order, or its tree
 abbrev pub patternOf : List ℕ → Checked Pattern

@@ -9,6 +9,7 @@ pub mod Reading
 pub mod Machine
 pub mod Tables
 pub mod Match
+pub mod Bounds
 pub mod Template
 pub mod Replace
-pub mod Piece
+pub mod PieceCalls

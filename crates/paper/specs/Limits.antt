@@ -37,6 +37,10 @@ repeatCount = 255
 abbrev pub noUpperEnd : ℕ
 noUpperEnd = 65535
 
+-- Reading 4: the places that a search has more than its pattern
+abbrev pub wrapPlaces : ℕ
+wrapPlaces = 10
+
 -- Reading 5: a row for the match and one for each group
 abbrev pub rowCount : ℕ
 rowCount = patternGroups + 1

@@ -61,7 +61,7 @@ abbrev mutual
 
 -- Machine 1: the kinds of place, each with its followers. A begin names the first group that it clears and how many
 pub data Place : Type 0 where
-  set : List Range → ℕ → Place
+  oneOf : List Range → ℕ → Place
   stop : Place
   fork : ℕ → ℕ → Place
   opening : ℕ → ℕ → Place
@@ -96,7 +96,7 @@ passFork lazy pass out = fork out pass
 abbrev pub lay : Core → ℕ → ℕ → List Place
 lay dead base next = stop ∷ []
 lay skip base next = []
-lay (eats ranges) base next = set ranges next ∷ []
+lay (eats ranges) base next = oneOf ranges next ∷ []
 lay (captures k e) base next =
     let inside = base + 1 in
     let close = inside + size e in
@@ -144,18 +144,18 @@ pub data Move : Type 0 where
   win : Move
   eat : ℕ → Move
   split : ℕ → ℕ → Move
-  goOn : Thread → Move
+  lead : Thread → Move
 
 -- Machine 2: the move at a place, for a thread at position p of the line
 abbrev pub moveAt : Place → List ℕ → ℕ → ℕ → Rows → Move
-moveAt (set ranges next) line p level rows = cond (takes ranges line p) (eat next) die
+moveAt (oneOf ranges next) line p level rows = cond (takes ranges line p) (eat next) die
 moveAt stop line p level rows = die
 moveAt (fork preferred other) line p level rows = split preferred other
-moveAt (opening k next) line p level rows = goOn (at next level (setStart k p rows))
-moveAt (closing k next) line p level rows = goOn (at next level (setEnd k p rows))
-moveAt (begin first n next) line p level rows = goOn (at next level (clear first n rows))
-moveAt (beginOptional first n next) line p level rows = goOn (at next (suc level) (clear first n rows))
-moveAt (ending next) line p level rows = cond (eqb level 0) (goOn (at next 0 rows)) die
+moveAt (opening k next) line p level rows = lead (at next level (setStart k p rows))
+moveAt (closing k next) line p level rows = lead (at next level (setEnd k p rows))
+moveAt (begin first n next) line p level rows = lead (at next level (clear first n rows))
+moveAt (beginOptional first n next) line p level rows = lead (at next (suc level) (clear first n rows))
+moveAt (ending next) line p level rows = cond (eqb level 0) (lead (at next 0 rows)) die
 moveAt accept line p level rows = cond (eqb p (length line)) win die
 
 -- Machine 2: a place and the level on arrival
@@ -204,7 +204,7 @@ follow visit t die s = s
 follow visit t win s = stopWith (t .rows) s
 follow visit t (eat next) s = carry next (t .rows) s
 follow visit t (split preferred other) s = visit (at other (t .level) (t .rows)) (visit (at preferred (t .level) (t .rows)) s)
-follow visit t (goOn u) s = visit u s
+follow visit t (lead u) s = visit u s
 
 -- Machine 2: an arrival, blocked or not
 abbrev pub arrive : (Thread → State → State) → List Place → List ℕ → ℕ → Bool → Thread → State → State

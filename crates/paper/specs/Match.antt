@@ -16,13 +16,13 @@ use Rattle.paper.specs.Reading.{Outcome, everyByte, read}
 use Rattle.paper.specs.Machine.{machine, stepsOf}
 
 -- Reading 3: the first outcome that ends at the line's end
-abbrev pub firstAt : ℕ → List Outcome → Option Rows
-firstAt n [] = none
-firstAt n (o ∷ os) = cond (eqb (o .end) n) (some (o .rows)) (firstAt n os)
+abbrev pub firstEndingAt : ℕ → List Outcome → Option Rows
+firstEndingAt n [] = none
+firstEndingAt n (o ∷ os) = cond (eqb (o .end) n) (some (o .rows)) (firstEndingAt n os)
 
 -- Reading 3: the rows of the first outcome that reads the whole line, or no match
 abbrev pub extract : Pattern → ℕ → List ℕ → Option Rows
-extract e first line = firstAt (length line) (read e line first 0 noRows)
+extract e first line = firstEndingAt (length line) (read e line first 0 noRows)
 
 abbrev pub withRow0 : ℕ → Option Rows → Option Rows
 withRow0 n none = none

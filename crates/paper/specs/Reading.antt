@@ -81,8 +81,8 @@ consuming pass p rows = bind (pass p rows) (unlessAt p)
 
 -- Reading 2, repeat, last sentence: greedy puts another pass before stopping, lazy stopping before another pass
 abbrev pub prefer : Mode → Reading → Reading → Reading
-prefer greedy again stop = orElse again stop
-prefer lazy again stop = orElse stop again
+prefer greedy again stopping = orElse again stopping
+prefer lazy again stopping = orElse stopping again
 
 -- Reading 2, repeat: up to so many optional passes
 abbrev pub optionalPasses : ℕ → Mode → Reading → Reading

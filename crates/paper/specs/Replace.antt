@@ -10,6 +10,7 @@ use Rattle.paper.specs.Refusal.{Checked, refused, accepted, _>>=_, _>>_,
 use Rattle.paper.specs.Pattern.{Pattern, groups}
 use Rattle.paper.specs.Check.{patternOf, part}
 use Rattle.paper.specs.Rows.{Rows, rowStart, rowEnd}
+use Rattle.paper.specs.Machine.{Stopped, matched, unmatched}
 use Rattle.paper.specs.Match.{search, searchSteps}
 use Rattle.paper.specs.Template.{Piece, literal, reference, templateOf, within}
 
@@ -19,6 +20,11 @@ movedBy p n = cond (eqb n absent) absent (p + n)
 
 abbrev pub moved : ℕ → Rows → Rows
 moved p rows = map (movedBy p) rows
+
+-- the same of how the list machine stops
+abbrev pub movedStopped : ℕ → Stopped → Stopped
+movedStopped p (matched steps rows) = matched steps (moved p rows)
+movedStopped p (unmatched steps) = unmatched steps
 
 -- Replace 1: what a row holds; an absent one nothing
 abbrev pub rowBytes : List ℕ → Rows → ℕ → List ℕ
@@ -37,8 +43,8 @@ pub record Scanned : Type 0 where
   pub steps : ℕ
 
 -- the same with bytes, replacements and steps put before it
-abbrev pub before : List ℕ → ℕ → ℕ → Scanned → Scanned
-before bytes replaced steps rest =
+abbrev pub precede : List ℕ → ℕ → ℕ → Scanned → Scanned
+precede bytes replaced steps rest =
     record { output = bytes ++ rest .output; replaced = replaced + rest .replaced; steps = steps + rest .steps }
 
 -- Replace 2: an empty match that stands where the last non-empty match ended is not replaced
@@ -52,19 +58,19 @@ Scan = ℕ → Option ℕ → Scanned
 
 -- Replace 2: whether the match is non-empty, and whether a byte stands at its start: after a non-empty match go on from its end;
 -- after an empty one copy the byte there, if any, and go on past it, ending past the line's end
-abbrev pub goOn : Bool → Bool → Scan → List ℕ → ℕ → ℕ → Option ℕ → Scanned
-goOn true byte scan line start end last = scan end (some end)
-goOn false true scan line start end last = before (part line start (start + 1)) 0 0 (scan (start + 1) last)
-goOn false false scan line start end last = record { output = []; replaced = 0; steps = 0 }
+abbrev pub scanOn : Bool → Bool → Scan → List ℕ → ℕ → ℕ → Option ℕ → Scanned
+scanOn true byte scan line start end last = scan end (some end)
+scanOn false true scan line start end last = precede (part line start (start + 1)) 0 0 (scan (start + 1) last)
+scanOn false false scan line start end last = record { output = []; replaced = 0; steps = 0 }
 
 -- Replace 2: after a match, its rows in the whole line: copy up to it, put in the template unless it is suppressed, go on
 abbrev pub afterMatch : Scan → List ℕ → List ℕ → List Piece → ℕ → Option ℕ → ℕ → Rows → Scanned
 afterMatch scan template line pieces p last steps rows =
     let start = rowStart 0 rows in
     let end = rowEnd 0 rows in
-    let kept = suppressed start end last in
-    before (part line p start ++ cond kept [] (putIn template line rows pieces)) (cond kept 0 1) steps
-    (goOn (ltb start end) (ltb start (length line)) scan line start end last)
+    let over = suppressed start end last in
+    precede (part line p start ++ cond over [] (putIn template line rows pieces)) (cond over 0 1) steps
+    (scanOn (ltb start end) (ltb start (length line)) scan line start end last)
 
 -- Replace 2: the search of the rest of the line from p, as a line of its own; with no match the rest is copied
 abbrev pub afterSearch : Scan → List ℕ → List ℕ → List Piece → ℕ → Option ℕ → ℕ → Option Rows → Scanned
@@ -93,13 +99,13 @@ replaceCall pattern template line buffer =
 
 -- Replace 2: what the call answers
 pub record Replaced : Type 0 where
-  pub length : ℕ
+  pub outputLength : ℕ
   pub replaced : ℕ
   pub steps : ℕ
 
 abbrev pub replaceAnswer : Checked Scanned → Checked Replaced
 replaceAnswer answer =
-    answer >>= λ s. accepted (record { length = length (s .output); replaced = s .replaced; steps = s .steps })
+    answer >>= λ s. accepted (record { outputLength = length (s .output); replaced = s .replaced; steps = s .steps })
 
 -- Replace 2, last sentence, and Refusals 3: the buffer afterwards: the output, then the bytes that stood behind; a refusal changes nothing
 abbrev pub bufferAfter : Checked Scanned → List ℕ → List ℕ

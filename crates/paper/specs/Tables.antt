@@ -1,4 +1,4 @@
--- How a pattern's places stand in a lent table: four numbers a place. Inner promises cite this file; no public promise does.
+-- How a pattern's places stand in a lent table: four numbers a place. 01 has no such thing: of the promises for C only those of a lent machine cite this file.
 use Prim.Native.Nat.{ℕ, zero, suc, _+_, _*_}
 use mathlib.Core.Bool.{Bool, true, false, cond}
 use mathlib.Core.List.{List, [], _∷_, _++_}
@@ -6,7 +6,7 @@ use lib.Dec.{eqb}
 use lib.ListN.{getD}
 use Rattle.paper.specs.Pattern.{Range}
 use Rattle.paper.specs.Check.{part, rangesOf}
-use Rattle.paper.specs.Machine.{Place, set, stop, fork, opening, closing, begin, beginOptional, ending, accept}
+use Rattle.paper.specs.Machine.{Place, oneOf, stop, fork, opening, closing, begin, beginOptional, ending, accept}
 
 -- the kinds of place by number, so that those that lead on at once, and those that do not, are ranges
 abbrev pub forkPlace : ℕ
@@ -53,15 +53,26 @@ placeOf pattern kind next a n =
     (cond (eqb kind beginPlace) (begin a n next)
     (cond (eqb kind beginOptionalPlace) (beginOptional a n next)
     (cond (eqb kind endPlace) (ending next)
-    (cond (eqb kind setPlace) (set (rangesOf (part pattern a (a + 2 * n))) next)
-    (cond (eqb kind rangePlace) (set (record { low = a; high = n } ∷ []) next)
+    (cond (eqb kind setPlace) (oneOf (rangesOf (part pattern a (a + 2 * n))) next)
+    (cond (eqb kind rangePlace) (oneOf (record { low = a; high = n } ∷ []) next)
     (cond (eqb kind acceptPlace) accept stop))))))))
 
--- the place at an index of the table
+-- the four numbers of the place at an index of the table
+abbrev pub placeKindAt : List ℕ → ℕ → ℕ
+placeKindAt table x = getD table (placeNumbers * x) 0
+
+abbrev pub placeNextAt : List ℕ → ℕ → ℕ
+placeNextAt table x = getD table (placeNumbers * x + 1) 0
+
+abbrev pub placeFirstAt : List ℕ → ℕ → ℕ
+placeFirstAt table x = getD table (placeNumbers * x + 2) 0
+
+abbrev pub placeManyAt : List ℕ → ℕ → ℕ
+placeManyAt table x = getD table (placeNumbers * x + 3) 0
+
+-- the place that they stand for
 abbrev pub placeAt : List ℕ → List ℕ → ℕ → Place
-placeAt table pattern x =
-    let b = placeNumbers * x in
-    placeOf pattern (getD table b 0) (getD table (b + 1) 0) (getD table (b + 2) 0) (getD table (b + 3) 0)
+placeAt table pattern x = placeOf pattern (placeKindAt table x) (placeNextAt table x) (placeFirstAt table x) (placeManyAt table x)
 
 -- the first `count` places of the table
 abbrev pub decode : List ℕ → List ℕ → ℕ → List Place

@@ -13,8 +13,8 @@ use Rattle.paper.specs.Refusal.{Checked, refused, accepted, _>>=_, _>>_, holds,
 use Rattle.paper.specs.Pattern.{Pattern, places, depth, groups, allPlaces}
 use Rattle.paper.specs.Layout.{recordOf, Lawful}
 use Rattle.paper.specs.Check.{bodyEnd, walkRecord, patternOf, Numbers, numbersOf, check}
-use Rattle.paper.proofs.Standing.{Bytes}
-use Rattle.paper.proofs.Lawful.{check-exactly}
+use Rattle.paper.proofs.layout.Standing.{Bytes}
+use Rattle.paper.proofs.layout.Lawful.{check-exactly}
 use Rattle.pattern.specs.Walk.{capped, told}
 use Rattle.pattern.specs.Answer.{answerOf, Checks}
 use Rattle.pattern.specs.declared.Answer.{Answer}

@@ -12,7 +12,7 @@ use Rattle.paper.specs.Limits.{patternPlaces, repeatCount}
 use Rattle.paper.specs.Pattern.{Upper, upTo, noEnd, repeatPlaces, hasOptional}
 use Rattle.paper.specs.Layout.{CountsRight}
 use Rattle.paper.specs.Check.{repeatNumbersRight, upperOf}
-use Rattle.paper.proofs.RepeatBody.{numbers-right, counts-small, upper-number-of}
+use Rattle.paper.proofs.layout.RepeatBody.{numbers-right, counts-small, upper-number-of}
 use Rattle.pattern.specs.Walk.{capped, optionalPasses, passPlaces}
 
 -- of two numbers the first is below the second or not

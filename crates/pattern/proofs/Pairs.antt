@@ -13,7 +13,7 @@ use borrow.Author.Tests.{le-leb, lt-leb, eq-eqb, ne-eqb}
 use Rattle.paper.specs.Limits.{setPairs}
 use Rattle.paper.specs.Pattern.{Range}
 use Rattle.paper.specs.Check.{part, rangesOf, apart, setRight}
-use Rattle.paper.proofs.Standing.{length-part}
+use Rattle.paper.proofs.layout.Standing.{length-part}
 
 -- ---- a part of a list
 

@@ -15,7 +15,7 @@ use Rattle.paper.specs.Pattern.Members.{two, more}
 use Rattle.paper.specs.Pattern as pattern
 use Rattle.paper.specs.Layout.{upperNumber}
 use Rattle.paper.specs.Check.{numberAt, kindAt, bodyStart, bodyEnd, upperOf, repeatHead}
-use Rattle.paper.proofs.MemberList.{listOf}
+use Rattle.paper.proofs.layout.MemberList.{listOf}
 use Rattle.pattern.specs.Walk.{placesIn, groupsIn}
 use Rattle.places.specs.Standing.{Stands, AllStand, Row, Passes, UpperRight}
 use Rattle.places.specs.Asked.{insideStart, CountsRight, ownPlaces, OwnPlaces, ownGroups, Capped, Counting, Counted, Summed}

@@ -9,7 +9,7 @@ use lib.Dec.{ltb, eqb}
 use lib.ListN.{getD}
 use Rattle.paper.specs.Pattern.{Mode, greedy, lazy}
 use Rattle.paper.specs.Check.{part, rangesOf}
-use Rattle.paper.specs.Machine.{Core, dead, skip, eats, captures, chain, either, must, maybe, star, Place, set, stop, fork, opening, closing, begin, beginOptional, ending, accept, size, passFork}
+use Rattle.paper.specs.Machine.{Core, dead, skip, eats, captures, chain, either, must, maybe, star, Place, oneOf, stop, fork, opening, closing, begin, beginOptional, ending, accept, size, passFork}
 use Rattle.paper.specs.Tables.{placeOf}
 use Rattle.places.specs.Laid.{kindOf, nextOf, aOf, nOf, Holds, Kept, Lays, entryOf}
 use Rattle.places.specs.Asked.{Put, movedTo, movedOther, Model, inPlace, ahead, Moving, PutMoved, PlaceMoved, Copied}
@@ -106,7 +106,7 @@ copy-one {from} {count} {to} {next} {k} {t} {t1} {t2} m lt c put =
 -- A place with its followers moved, and the numbers that stand for it.
 
 abbrev movedPlace : (ℕ → ℕ) → Place → Place
-movedPlace g (set ranges x) = set ranges (g x)
+movedPlace g (oneOf ranges x) = oneOf ranges (g x)
 movedPlace g stop = stop
 movedPlace g (fork x y) = fork (g x) (g y)
 movedPlace g (opening k x) = opening k (g x)
@@ -197,7 +197,7 @@ module _ {from count to next : ℕ} {before after : List ℕ} (c : Copied from c
       → Lays before bs e base out → Lays after bs e base' out'
   lays-moved dead base base' out out' low high e eo h = holds-moved base base' low (omega arith) e refl h
   lays-moved skip base base' out out' low high e eo h = tt
-  lays-moved (eats ranges) base base' out out' low high e eo h = holds-moved base base' low (omega arith) e (ap (set ranges) eo) h
+  lays-moved (eats ranges) base base' out out' low high e eo h = holds-moved base base' low (omega arith) e (ap (oneOf ranges) eo) h
   lays-moved (captures k a) base base' out out' low high e eo h =
       let close = base + 1 + size a in
       let close' = base' + 1 + size a in

@@ -11,8 +11,9 @@ use Rattle.paper.specs.Check.{modeOf, patternOf}
 use Rattle.paper.specs.Reading.{everyByte}
 use Rattle.paper.specs.Machine.{Core, eats, captures, chain, star, accept, size, lay, writtenOut, placesOf}
 use Rattle.paper.specs.Match.{wrap}
-use Rattle.paper.proofs.Accepted.{accepted-injective}
-use Rattle.paper.proofs.Sizes.{size-written}
+use Rattle.paper.specs.Bounds.{searchPlaces}
+use Rattle.paper.proofs.layout.Accepted.{accepted-injective}
+use Rattle.paper.proofs.machine.Sizes.{size-written}
 use Rattle.places.specs.Laid.{Holds, Kept, Lays}
 use Rattle.places.specs.Asked.{Put, Forked, One, OneLaid, HeadLaid, StarLaid}
 use Rattle.places.specs.Built.{Accepted, Built}
@@ -98,7 +99,7 @@ star-laid {base} {mode} {next} {first} f b s e =
 pub search-built : {bs t t1 t2 t3 t4 t5 : List ℕ} {e : Pattern} {p g : ℕ} → Whole bs e → p ≡ places e → g ≡ groups e → StarLaid 0 1 4 0 t t1
     → HeadLaid bs 0 (length bs) 1 0 0 4 (5 + p) 1 p g t1 t2 → Put t2 (5 + p) 2 (5 + p + 1) 0 0 t3
     → StarLaid (5 + p + 1) 0 (5 + p + 1 + 4) (g + 1) t3 t4 → Put t4 (5 + p + 1 + 4) 9 0 0 0 t5
-    → Built (placesOf (wrap e) 0) (allPlaces e + 10) bs t t5
+    → Built (placesOf (wrap e) 0) (searchPlaces e) bs t t5
 search-built {bs} {t} {t1} {t2} {t3} {t4} {t5} {e} {p} {g} w same sameg s h close z put =
     let inner = writtenOut e 1 in
     let long : p ≡ size inner = same ∙ sym (size-written e 1) in
@@ -132,7 +133,7 @@ search-built {bs} {t} {t1} {t2} {t3} {t4} {t5} {e} {p} {g} w same sameg s h clos
     laid-before
     (chain-lays t5 bs group behind 4 (size c) (size group) (5 + p + 1) refl (omega arith) laid-group laid-behind) in
     let last = put-holds bs put (omega arith) (λ six. absurd (omega arith)) in
-    let high = allPlaces e + 10 in
+    let high = searchPlaces e in
     let kept = kept-both 0 high
     (kept-both 0 high
     (kept-both 0 high (kept-both 0 high (s .kept) (h .kept) (omega arith) (omega arith) (omega arith) (omega arith)) (close .kept) (omega arith)

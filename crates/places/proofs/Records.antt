@@ -13,9 +13,9 @@ use Rattle.paper.specs.Pattern.{Mode, Upper, upTo, noEnd, Range, Pattern, place
 use Rattle.paper.specs.Pattern.Pattern.{repeat}
 use Rattle.paper.specs.Layout.{upperNumber}
 use Rattle.paper.specs.Check.{numberAt, bodyEnd, kindAt, upperOf, modeOf, part, rangesOf, repeatHead}
-use Rattle.paper.specs.Machine.{Core, captures, chain, either, size, writtenOut, musts, optionals, opening, closing, fork, set}
-use Rattle.paper.proofs.Sizes.{size-written}
-use Rattle.paper.proofs.RepeatBody.{mode-of-number}
+use Rattle.paper.specs.Machine.{Core, captures, chain, either, size, writtenOut, musts, optionals, opening, closing, fork, oneOf}
+use Rattle.paper.proofs.machine.Sizes.{size-written}
+use Rattle.paper.proofs.layout.RepeatBody.{mode-of-number}
 use Rattle.pattern.specs.Walk.{placesIn, groupsIn, optionalPasses, passPlaces}
 use Rattle.places.specs.Laid.{Holds, Kept, Lays, entryOf}
 use Rattle.places.specs.Standing.{Stands, Row, UpperRight, rowPlaces, rowCore}

@@ -11,8 +11,8 @@ use Rattle.paper.specs.Machine.{Core, size, musts, maybes, writtenOut, chained,
 use Rattle.pattern.specs.Walk.{passPlaces}
 use Rattle.places.specs.Standing.{rowPlaces, rowCore}
 use Rattle.places.specs.Asked.{optionalCore, passCore}
-use Rattle.paper.proofs.MemberList.{listOf}
-use Rattle.paper.proofs.Sizes.{size-written, size-musts, size-maybes}
+use Rattle.paper.proofs.layout.MemberList.{listOf}
+use Rattle.paper.proofs.machine.Sizes.{size-written, size-musts, size-maybes}
 
 -- members in a row are written out as the sequence, or the alternation, of them
 pub row-chained : (ms : Members) (first : ℕ) → rowCore false (listOf ms) first ≡ chained ms first

@@ -10,7 +10,7 @@ use Rattle.paper.specs.Pattern.{Mode, Upper, Range, Pattern, places, groups}
 use Rattle.paper.specs.Pattern.Pattern.{nothing, empty, bytes, group, sequence, alternation, repeat}
 use Rattle.paper.specs.Check.{bodyEnd, bodyStart, kindAt, repeatHead}
 use Rattle.paper.specs.Machine.{writtenOut}
-use Rattle.paper.proofs.MemberList.{listOf}
+use Rattle.paper.proofs.layout.MemberList.{listOf}
 use Rattle.pattern.specs.Walk.{groupsIn}
 use Rattle.places.specs.Standing.{Stands, Row, Pairs, Passes, rowPlaces, rowCore}
 use Rattle.places.proofs.Adding.{members-row, members-places, members-groups, members-count, members-two}

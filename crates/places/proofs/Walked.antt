@@ -16,13 +16,13 @@ use Rattle.paper.specs.Pattern.Members.{two, more}
 use Rattle.paper.specs.Layout.{Kind, nothingKind, emptyKind, bytesKind, groupKind, sequenceKind, alternationKind, repeatKind, kindNumber}
 use Rattle.paper.specs.Layout as layout
 use Rattle.paper.specs.Check.{numberAt, bodyLength, kindAt, bodyStart, bodyEnd, part, header, rangesOf, apart, setRight, byteSet, repeatNumbersRight, upperOf, modeOf, repeatHead, Walk, single, walkAll, atLeastTwo, several, body, walkRecord, patternOf}
-use Rattle.paper.proofs.Accepted.{refused-not-accepted, accepted-injective, bind-accepted, holds-accepted, both-true}
-use Rattle.paper.proofs.Standing.{length-part}
-use Rattle.paper.proofs.RepeatBody.{upper-number-of, numbers-right, counts-small}
-use Rattle.paper.proofs.MemberList.{listOf, list-accepted, groups-listed}
-use Rattle.paper.proofs.MemberList as list
-use Rattle.paper.proofs.Turns.{Within, walk-all-induction}
-use Rattle.paper.proofs.Header.{header-accepted, walk-within}
+use Rattle.paper.proofs.layout.Accepted.{refused-not-accepted, accepted-injective, bind-accepted, holds-accepted, both-true}
+use Rattle.paper.proofs.layout.Standing.{length-part}
+use Rattle.paper.proofs.layout.RepeatBody.{upper-number-of, numbers-right, counts-small}
+use Rattle.paper.proofs.layout.MemberList.{listOf, list-accepted, groups-listed}
+use Rattle.paper.proofs.layout.MemberList as list
+use Rattle.paper.proofs.layout.Turns.{Within, walk-all-induction}
+use Rattle.paper.proofs.layout.Header.{header-accepted, walk-within}
 use Rattle.pattern.specs.Walk.{groupsIn}
 use Rattle.places.specs.Standing.{UpperRight, Stands, AllStand, Row}
 

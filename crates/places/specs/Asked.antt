@@ -5,11 +5,11 @@ use mathlib.Core.Bool.{Bool, true, false, cond}
 use mathlib.Core.List.{List}
 use lib.Dec.{ltb, eqb}
 use lib.ListN.{length}
-use Rattle.paper.specs.Limits.{patternBytes, patternPlaces, rowCount, setPairs, repeatCount, noUpperEnd}
+use Rattle.paper.specs.Limits.{patternBytes, patternPlaces, wrapPlaces, rowCount, setPairs, repeatCount, noUpperEnd}
 use Rattle.paper.specs.Pattern.{Mode, Upper, Pattern, places, groups, repeatPlaces}
 use Rattle.paper.specs.Check.{numberAt, bodyEnd, part, rangesOf, repeatHead, upperOf, modeOf}
 use Rattle.paper.specs.Reading.{everyByte}
-use Rattle.paper.specs.Machine.{Core, skip, eats, set, maybe, star, musts, writtenOut, passFork, size}
+use Rattle.paper.specs.Machine.{Core, skip, eats, oneOf, maybe, star, musts, writtenOut, passFork, size}
 use Rattle.paper.specs.Tables.{placeNumbers, placeOf, forkPlace, setPlace}
 use Rattle.pattern.specs.Walk.{placesIn, groupsIn, passPlaces}
 use Rattle.places.specs.Laid.{kindOf, nextOf, aOf, nOf, Holds, Kept, Lays, entryOf}
@@ -17,7 +17,7 @@ use Rattle.places.specs.Standing.{Stands, Row, Passes, rowPlaces, rowCor
 
 -- the places of the largest pattern with a search's wrap around it
 abbrev pub mostPlaces : ℕ
-mostPlaces = patternPlaces + 10
+mostPlaces = patternPlaces + wrapPlaces
 
 -- the table has room for them
 abbrev pub tableRoom : ℕ

@@ -8,6 +8,7 @@ use Rattle.paper.specs.Pattern.{Pattern, places, allPlaces, groups}
 use Rattle.paper.specs.Check.{patternOf}
 use Rattle.paper.specs.Machine.{Place, placesOf}
 use Rattle.paper.specs.Match.{wrap}
+use Rattle.paper.specs.Bounds.{searchPlaces}
 use Rattle.paper.specs.Tables.{placeNumbers, decode}
 use Rattle.places.specs.Laid.{Readable}
 
@@ -32,5 +33,5 @@ pub record BuiltMatch (pattern before after : List ℕ) (answer : ℕ) : Type 0 
 
 -- building for a search does the same of the pattern with the wrap around it
 pub record BuiltSearch (pattern before after : List ℕ) (answer : ℕ) : Type 0 where
-  pub count-is : (e : Pattern) → patternOf pattern ≡ accepted e → answer ≡ allPlaces e + 10
-  pub built : (e : Pattern) → patternOf pattern ≡ accepted e → Built (placesOf (wrap e) 0) (allPlaces e + 10) pattern before after
+  pub count-is : (e : Pattern) → patternOf pattern ≡ accepted e → answer ≡ searchPlaces e
+  pub built : (e : Pattern) → patternOf pattern ≡ accepted e → Built (placesOf (wrap e) 0) (searchPlaces e) pattern before after

@@ -6,7 +6,7 @@ use mathlib.Core.List.{List}
 use lib.Dec.{eqb}
 use lib.ListN.{length, getD}
 use Rattle.paper.specs.Limits.{setPairs}
-use Rattle.paper.specs.Machine.{Core, dead, skip, eats, captures, chain, either, must, maybe, star, Place, set, stop, fork, opening, closing, begin, beginOptional, ending, size, entry, passFork}
+use Rattle.paper.specs.Machine.{Core, dead, skip, eats, captures, chain, either, must, maybe, star, Place, oneOf, stop, fork, opening, closing, begin, beginOptional, ending, size, entry, passFork}
 use Rattle.paper.specs.Tables.{placeNumbers, placeAt, setPlace, acceptPlace}
 
 -- the numbers of a place: its kind, its follower and two more
@@ -47,7 +47,7 @@ entryOf places base next = cond (eqb places 0) next base
 abbrev pub Lays : List ℕ → List ℕ → Core → ℕ → ℕ → Type 0
 Lays t p dead base next = Holds t p base stop
 Lays t p skip base next = Unit {0}
-Lays t p (eats ranges) base next = Holds t p base (set ranges next)
+Lays t p (eats ranges) base next = Holds t p base (oneOf ranges next)
 Lays t p (captures k e) base next =
     let close = base + 1 + size e in
     Holds t p base (opening k (entry e (base + 1) close)) × Lays t p e (base + 1) close × Holds t p close (closing k next)

@@ -1,5 +1,5 @@
 -- The call's answers, by its tests in their order: each refusal where the tests before it pass, and the scan where all do.
-use Prim.Native.Nat.{ℕ, _+_, _*_, _/_, _≤_, _<_, max, zero-le}
+use Prim.Native.Nat.{ℕ, _≤_, _<_, zero-le}
 use mathlib.Core.Path.{_≡_, refl, sym, ap, subst, _∙_}
 use mathlib.Core.Bool.{Bool, true, false}
 use mathlib.Core.List.{List, [], _++_}
@@ -9,11 +9,12 @@ use lib.ListN.{length, drop}
 use borrow.Author.Tests.{le-leb, lt-leb}
 use Rattle.paper.specs.Limits.{lineBytes}
 use Rattle.paper.specs.Refusal.{Checked, refused, accepted, _>>=_, _>>_, holds, lineTooLong, outputTooLong}
-use Rattle.paper.specs.Pattern.{Pattern, groups, allPlaces, depth}
+use Rattle.paper.specs.Pattern.{Pattern, groups}
 use Rattle.paper.specs.Check.{patternOf}
 use Rattle.paper.specs.Template.{Piece, templateOf, within}
+use Rattle.paper.specs.Bounds.{replaceBound}
 use Rattle.paper.specs.Replace.{Scanned, replaceAll, replaceCall, replaceAnswer, bufferAfter}
-use Rattle.paper.proofs.ReplaceBound.{replaceAll-steps}
+use Rattle.paper.proofs.replacing.ReplaceBound.{replaceAll-steps}
 use Rattle.template.specs.Record.{referencesCall}
 use Rattle.template.proofs.Records.{references-right, references-refused}
 use Rattle.matcher.specs.declared.Built.{Built}
@@ -132,14 +133,13 @@ module _ (pattern template line lent : List ℕ) where
             let is : replaceCall pattern template line lent ≡ accepted (wholeOf pattern template line) =
             by-tests true true (le-leb (length line) lineBytes small) (le-leb output (length lent) room) in
             record {
-              answer = (λ i. accepted (record { length = l i; replaced = r i; steps = s i })) ∙ sym (ap replaceAnswer is);
+              answer = (λ i. accepted (record { outputLength = l i; replaced = r i; steps = s i })) ∙ sym (ap replaceAnswer is);
               buffer = wrote ∙ sym (ap (λ (c : Checked Scanned). bufferAfter c lent) is);
               bound = λ e found.
                   let same : treeOf pattern ≡ e = cc in
-                  subst (λ (n : ℕ). n ≤ (allPlaces e + 10) * (max 1 (depth e) + 1) * ((length line + 1) * (length line + 2) / 2)) (sym s)
+                  subst (λ (n : ℕ). n ≤ replaceBound e (length line)) (sym s)
                   (subst
-                  (λ (f : Pattern).
-                  wholeOf pattern template line .steps ≤ (allPlaces f + 10) * (max 1 (depth f) + 1) * ((length line + 1) * (length line + 2) / 2)) same
+                  (λ (f : Pattern). wholeOf pattern template line .steps ≤ replaceBound f (length line)) same
                   (replaceAll-steps (treeOf pattern) template line (piecesOf template) small));
             }
 

@@ -15,7 +15,7 @@ use Rattle.replacer.specs.Promise.{Replaces}
 
 abbrev lengthIn : Checked paper.Replaced → ℕ
 lengthIn (refused number place) = 0
-lengthIn (accepted r) = r .length
+lengthIn (accepted r) = r .outputLength
 
 abbrev replacedIn : Checked paper.Replaced → ℕ
 replacedIn (refused number place) = 0

@@ -13,7 +13,7 @@ use Rattle.paper.specs.Check.{part, bodyEnd}
 use Rattle.paper.specs.Rows.{Rows, rowStart, rowEnd}
 use Rattle.paper.specs.Template.{Piece, literal, reference, pieceAt}
 use Rattle.paper.specs.Replace.{rowBytes, putIn}
-use Rattle.paper.proofs.RowsKept.{RowFits, away, spans, RowsFit}
+use Rattle.paper.proofs.reading.RowsKept.{RowFits, away, spans, RowsFit}
 use Rattle.template.specs.declared.Record.{Record}
 use Rattle.template.specs.Record.{Shows, From}
 use Rattle.template.proofs.Records.{piece-ends, from-template, first-from, none-from, wrong-from}

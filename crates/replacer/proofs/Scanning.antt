@@ -11,11 +11,11 @@ use Rattle.paper.specs.Refusal.{accepted}
 use Rattle.paper.specs.Layout.{Lawful}
 use Rattle.paper.specs.Pattern.{Pattern}
 use Rattle.paper.specs.Check.{patternOf}
-use Rattle.paper.specs.Replace.{Scanned, before}
-use Rattle.paper.proofs.ReplaceBound.{mostSum, replaceAll-most}
-use Rattle.paper.proofs.ScanWays as ways
-use Rattle.paper.proofs.ScanWays.{turnBytes, turnCount, turnRest, ended, TurnFits, turn-fits, scanFrom, scan-whole, scan-turn}
-use Rattle.paper.proofs.ScanLengths.{mostOutput, replaceAll-short}
+use Rattle.paper.specs.Replace.{Scanned, precede}
+use Rattle.paper.proofs.replacing.ReplaceBound.{mostSum, replaceAll-most}
+use Rattle.paper.proofs.replacing.ScanWays as ways
+use Rattle.paper.proofs.replacing.ScanWays.{turnBytes, turnCount, turnRest, ended, TurnFits, turn-fits, scanFrom, scan-whole, scan-turn}
+use Rattle.paper.proofs.replacing.ScanLengths.{mostOutput, replaceAll-short}
 use Rattle.matcher.specs.Machine.{Ready, Runnable}
 use Rattle.replacer.specs.declared.turns.Turn.{Turn}
 use Rattle.replacer.specs.Given.{acceptedOr, treeOf, piecesOf, Right, wholeOf}
@@ -119,12 +119,12 @@ module _ {pattern line : List ℕ} (small : length line ≤ lineBytes) {from las
 module _ (pattern template line : List ℕ) (small : length line ≤ lineBytes) where
   module _ (from last : ℕ) (t : Turn) (turns : Turns pattern line from last t) (inside : from ≤ length line) where
     turns-before : scanFrom (treeOf pattern) template line (piecesOf template) from (lastOf last)
-        ≡ before (turnBytes template line (piecesOf template) from (asTurn t)) (turnCount (asTurn t)) (t .steps) (leftOf pattern template line (t .goes) (t .next) (t .last))
+        ≡ precede (turnBytes template line (piecesOf template) from (asTurn t)) (turnCount (asTurn t)) (t .steps) (leftOf pattern template line (t .goes) (t .next) (t .last))
     turns-before =
         scan-turn (treeOf pattern) template line (piecesOf template) small from (lastOf last) inside
         ∙ sym
         (λ i.
-        before (turnBytes template line (piecesOf template) from (turns .same i)) (turnCount (turns .same i)) (turns .counted i)
+        precede (turnBytes template line (piecesOf template) from (turns .same i)) (turnCount (turns .same i)) (turns .counted i)
         (turnRest (scanFrom (treeOf pattern) template line (piecesOf template)) (turns .same i)))
 
   -- the whole scan
@@ -150,7 +150,7 @@ module _ {pattern template line : List ℕ} (small : length line ≤ lineBytes) 
   sum-more {from} {last} {total} {replacements} {steps} {goes} go sum {t} turns {added} adds {ones} counts =
       let inside = sum .inside go in
       let here : leftOf pattern template line goes from last
-      ≡ before (turnBytes template line (piecesOf template) from (asTurn t)) (turnCount (asTurn t)) (t .steps) (leftOf pattern template line (t .goes) (t .next) (t .last)) =
+      ≡ precede (turnBytes template line (piecesOf template) from (asTurn t)) (turnCount (asTurn t)) (t .steps) (leftOf pattern template line (t .goes) (t .next) (t .last)) =
       ap (λ (b : Bool). leftOf pattern template line b from last) go ∙ turns-before pattern template line small from last t turns inside in
       let left = leftOf pattern template line (t .goes) (t .next) (t .last) in
       let bytes = turnBytes template line (piecesOf template) from (asTurn t) in

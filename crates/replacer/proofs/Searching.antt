@@ -10,9 +10,9 @@ use Rattle.paper.specs.Limits.{lineBytes}
 use Rattle.paper.specs.Rows.{Rows, rowStart, rowEnd}
 use Rattle.paper.specs.Match.{search, searchSteps, isMatch, rowsOrNone}
 use Rattle.paper.specs.Replace.{moved}
-use Rattle.paper.proofs.AnswerRows.{Answered}
-use Rattle.paper.proofs.ScanTurns.{Ahead, match-ahead}
-use Rattle.paper.proofs.ScanWays.{turnOf}
+use Rattle.paper.proofs.reading.AnswerRows.{Answered}
+use Rattle.paper.proofs.replacing.ScanTurns.{Ahead, match-ahead}
+use Rattle.paper.proofs.replacing.ScanWays.{turnOf}
 use Rattle.matcher.specs.Machine.{Ready, Gives, SearchGives}
 use Rattle.replacer.specs.declared.turns.Turn.{Turn}
 use Rattle.replacer.specs.Given.{treeOf}

@@ -14,8 +14,8 @@ use Rattle.paper.specs.Check.{part}
 use Rattle.paper.specs.Rows.{Rows, rowEnd}
 use Rattle.paper.specs.Template.{Piece}
 use Rattle.paper.specs.Replace.{putIn, suppressed}
-use Rattle.paper.proofs.ScanWays.{Turn, turnBy, turnOf, turnBytes, TurnFits}
-use Rattle.paper.proofs.ScanLengths.{part-length}
+use Rattle.paper.proofs.replacing.ScanWays.{Turn, turnBy, turnOf, turnBytes, TurnFits}
+use Rattle.paper.proofs.replacing.ScanLengths.{part-length}
 use Rattle.replacer.specs.Turn.{lastOf, foundOf, Finds}
 use Rattle.replacer.specs.Appended.{Appended}
 use Rattle.replacer.proofs.Written.{written-on}

@@ -7,7 +7,7 @@ use Rattle.replacer.specs.declared.Replaced.{Replaced}
 -- the number and the place of a refusal, or the output's length, the replacements and the sum of the steps
 abbrev pub answerOf : Replaced → Checked paper.Replaced
 answerOf (Replaced.Refused number place) = refused number place
-answerOf (Replaced.Done length replacements steps) = accepted (record { length = length; replaced = replacements; steps = steps })
+answerOf (Replaced.Done length replacements steps) = accepted (record { outputLength = length; replaced = replacements; steps = steps })
 
 -- the steps that an answer tells
 abbrev pub stepsTold : Replaced → ℕ

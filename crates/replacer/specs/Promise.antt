@@ -1,11 +1,12 @@
 -- The promise of replace-all: the answer, the lent buffer afterwards, and the bound on the sum of the steps.
-use Prim.Native.Nat.{ℕ, _+_, _*_, _/_, _≤_, max}
+use Prim.Native.Nat.{_≤_}
 use mathlib.Core.Path.{_≡_}
 use mathlib.Core.List.{List}
 use lib.ListN.{length}
 use Rattle.paper.specs.Refusal.{accepted}
-use Rattle.paper.specs.Pattern.{Pattern, allPlaces, depth}
+use Rattle.paper.specs.Pattern.{Pattern}
 use Rattle.paper.specs.Check.{patternOf}
+use Rattle.paper.specs.Bounds.{replaceBound}
 use Rattle.paper.specs.Replace.{replaceCall, replaceAnswer, bufferAfter}
 use Rattle.replacer.specs.declared.Replaced.{Replaced}
 use Rattle.replacer.specs.Answer.{answerOf, stepsTold}
@@ -16,4 +17,4 @@ pub record Replaces (pattern template line lent : List ℕ) (r : Replaced) (afte
   pub answer : answerOf r ≡ replaceAnswer (replaceCall pattern template line lent)
   pub buffer : after ≡ bufferAfter (replaceCall pattern template line lent) lent
   pub bound : (e : Pattern) → patternOf pattern ≡ accepted e
-      → stepsTold r ≤ (allPlaces e + 10) * (max 1 (depth e) + 1) * ((length line + 1) * (length line + 2) / 2)
+      → stepsTold r ≤ replaceBound e (length line)

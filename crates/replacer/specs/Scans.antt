@@ -4,7 +4,7 @@ use mathlib.Core.Path.{_≡_}
 use mathlib.Core.List.{List}
 use lib.ListN.{length, drop}
 use Rattle.paper.specs.Match.{searchSteps}
-use Rattle.paper.proofs.ScanWays.{turnAt}
+use Rattle.paper.proofs.replacing.ScanWays.{turnAt}
 use Rattle.replacer.specs.declared.turns.Turn.{Turn}
 use Rattle.replacer.specs.declared.scans.Measured.{Measured}
 use Rattle.replacer.specs.Given.{treeOf, wholeOf}

@@ -6,7 +6,7 @@ use mathlib.Core.Option.{Option, none, some}
 use lib.Dec.{eqb}
 use Rattle.paper.specs.Limits.{lineBytes, absent}
 use Rattle.paper.specs.Rows.{Rows, noRows, rowEnd}
-use Rattle.paper.proofs.ScanWays as ways
+use Rattle.paper.proofs.replacing.ScanWays as ways
 use Rattle.replacer.specs.declared.turns.Turn.{Turn}
 
 -- where the last non-empty match ended; 65,535, which is no place, before there is one

@@ -7,7 +7,7 @@ ghost use Prim.Native.Nat.{ℕ, _+_, _≤_};
 ghost use lib.ListN.{length};
 ghost use Rattle.paper.specs.Limits.{lineBytes, patternGroups};
 ghost use Rattle.paper.specs.Replace.{rowBytes, putIn};
-ghost use Rattle.paper.proofs.RowsKept.{RowsFit};
+ghost use Rattle.paper.proofs.reading.RowsKept.{RowsFit};
 ghost use Rattle.replacer.specs.Given.{piecesOf, Right};
 ghost use Rattle.replacer.specs.Appended.{Appended};
 

@@ -12,7 +12,7 @@ use lib.ListN.{length, getD, replicate, length-replicate, length-append}
 use Rattle.paper.specs.Rows.{Rows, noRows}
 use Rattle.paper.specs.Machine.{Place, Thread, at, fresh, visits, settle, run, Stopped}
 use Rattle.paper.specs.Tables.{decode}
-use Rattle.paper.proofs.Once.{once, run-once}
+use Rattle.paper.proofs.machine.Once.{once, run-once}
 use Rattle.visit.specs.Threads.{placeIn, rowsFrom, rowsIn, threadIn, threads, stored}
 use Rattle.visit.specs.Wired.{Wired}
 use Rattle.visit.specs.Shows.{Under}

@@ -13,7 +13,7 @@ use lib.ListN.{length, getD}
 use Rattle.paper.specs.Rows.{Rows}
 use Rattle.paper.specs.Machine.{Place, Thread, at, State, fresh, isWon, isSeen, visit, visits}
 use Rattle.paper.specs.Tables.{decode}
-use Rattle.paper.proofs.Once.{visit-blocked}
+use Rattle.paper.proofs.machine.Once.{visit-blocked}
 use Rattle.visit.specs.Threads.{placeIn, rowsIn, threadIn, threads, left}
 use Rattle.visit.specs.Wired.{Wired}
 use Rattle.visit.specs.Shows.{Shows, Carried, Under, Arrives, Visits}

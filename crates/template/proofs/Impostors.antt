@@ -8,7 +8,7 @@ use denote.Ref.{RefT, now}
 use lib.ListN.{length}
 use Rattle.paper.specs.Refusal.{Checked, refused, accepted}
 use Rattle.paper.specs.Rows.{noRows}
-use Rattle.paper.specs.Piece.{Span, pieceCall, partCall}
+use Rattle.paper.specs.PieceCalls.{Span, pieceCall, partCall}
 use Rattle.template.specs.declared.Answer.{Answer}
 use Rattle.template.specs.Answer.{answerOf, IsPart}
 

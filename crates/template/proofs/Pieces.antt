@@ -14,7 +14,7 @@ use Rattle.paper.specs.Rows.{Rows, rowStart, rowEnd}
 use Rattle.paper.specs.Match.{lineAndTable}
 use Rattle.paper.specs.Check.{numberAt, bodyLength, kindAt, bodyStart, bodyEnd}
 use Rattle.paper.specs.Template.{Piece, literal, reference, literalKind, referenceKind, pieceAt, templateOf}
-use Rattle.paper.specs.Piece.{Span, fromTemplate, fromLine, isAbsent, rowSpan, spanOf, spanAt, pieceCall, sourceBytes}
+use Rattle.paper.specs.PieceCalls.{Span, fromTemplate, fromLine, isAbsent, rowSpan, spanOf, spanAt, pieceCall, sourceBytes}
 use Rattle.template.specs.declared.Record.{Record}
 use Rattle.template.specs.Record.{Shows, From}
 use Rattle.template.proofs.Records.{never, piece-ends, from-template, nth-from, wrong-from}

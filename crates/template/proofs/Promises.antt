@@ -9,7 +9,7 @@ use borrow.Rule.Slice.Shared.{byByte}
 use borrow.Rule.Slice.Prefix.{slPtrP}
 use borrow.Rule.Slice.PartAt.{slPart}
 use Rattle.paper.specs.Refusal.{Checked, refused, accepted}
-use Rattle.paper.specs.Piece.{Source, fromTemplate, fromLine, Span, pieceCall}
+use Rattle.paper.specs.PieceCalls.{Source, fromTemplate, fromLine, Span, pieceCall}
 use Rattle.template.specs.declared.Answer.{Answer}
 use Rattle.template.specs.Answer.{answerOf, sourceSlice, IsPart}
 

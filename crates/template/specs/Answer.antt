@@ -4,7 +4,7 @@ use mathlib.Core.Path.{_≡_}
 use mathlib.Core.List.{List}
 use denote.Ref.{RefT, ptr, now}
 use Rattle.paper.specs.Refusal.{Checked, refused, accepted}
-use Rattle.paper.specs.Piece.{Source, fromTemplate, fromLine, Span, partCall}
+use Rattle.paper.specs.PieceCalls.{Source, fromTemplate, fromLine, Span, partCall}
 use Rattle.template.specs.declared.Answer.{Answer}
 
 -- the first call's answer: a refusal's number and place, or source, start and end

@@ -16,7 +16,7 @@ ghost use Rattle.paper.specs.Limits.{patternGroups, tableNumbers};
 ghost use Rattle.paper.specs.Refusal.{accepted};
 ghost use Rattle.paper.specs.Rows.{rowStart, rowEnd};
 ghost use Rattle.paper.specs.Template.{Piece, templateOf, within};
-ghost use Rattle.paper.specs.Piece.{rowSpan, spanAt, pieceCall};
+ghost use Rattle.paper.specs.PieceCalls.{rowSpan, spanAt, pieceCall};
 ghost use Rattle.template.specs.Record.{Shows, From, countOf, recordCount, referencesOf, referencesCall, Lawful, Numbered};
 ghost use Rattle.template.specs.Answer.{answerOf, IsPart};
 

@@ -13,7 +13,7 @@ use lib.ListN.{length, getD, set, length-set}
 use lib.Seq.{getD-set-same, getD-set-other}
 use Rattle.paper.specs.Rows.{Rows}
 use Rattle.paper.specs.Machine.{Thread, at, State, isSeen, stopWith}
-use Rattle.paper.proofs.Once.{once, pairsOf, once-snoc}
+use Rattle.paper.proofs.machine.Once.{once, pairsOf, once-snoc}
 use Rattle.visit.specs.Threads.{stored, placeIn, threads, left}
 use Rattle.visit.specs.Shows.{Shows, Carried, Under}
 use Rattle.visit.specs.Moves.{Carries}

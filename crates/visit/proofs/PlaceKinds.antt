@@ -16,7 +16,7 @@ use Rattle.paper.specs.Reading.{inSet}
 use Rattle.paper.specs.Check.{rangesOf, part}
 use Rattle.paper.specs.Machine.{Place, Thread, at, State, Move, follow, moveAt}
 use Rattle.paper.specs.Tables.{placeOf}
-use Rattle.paper.proofs.RowLaws.{length-clear}
+use Rattle.paper.proofs.reading.RowLaws.{length-clear}
 use Rattle.visit.specs.Wired.{levelAfter, Slots}
 use Rattle.visit.specs.Shows.{AheadIn}
 use Rattle.visit.specs.Moves.{takesAt, Eats, Leads}
@@ -26,7 +26,7 @@ use Rattle.visit.proofs.Ranges.{takes-ahead, takes-none, or-false}
 
 -- no place takes a byte behind the line
 takes-nothing : (place : Place) (line : List ℕ) (p : ℕ) → length line ≤ p → takesAt place line p ≡ false
-takes-nothing (Place.set ranges next) line p h = takes-none ranges line p h
+takes-nothing (Place.oneOf ranges next) line p h = takes-none ranges line p h
 takes-nothing Place.stop line p h = refl
 takes-nothing (Place.fork a b) line p h = refl
 takes-nothing (Place.opening k next) line p h = refl
@@ -86,7 +86,7 @@ module _ (pattern : List ℕ) (there : Bool) (byte kind a n : ℕ) where
   eats-other n6 n7 = eats-not (λ line p next along. eats-none pattern line kind next a n p n6 n7)
 
   -- a set takes the byte that is there, if it holds it
-  eats-held : (k : ℕ) → k < 8 → (ranges : List Range) → ((next : ℕ) → placeOf pattern k next a n ≡ Place.set ranges next) → kind ≡ k → there ≡ true
+  eats-held : (k : ℕ) → k < 8 → (ranges : List Range) → ((next : ℕ) → placeOf pattern k next a n ≡ Place.oneOf ranges next) → kind ≡ k → there ≡ true
       → (r : Bool) → r ≡ inSet ranges byte → Eats pattern there byte kind a n r
   eats-held k low ranges is-set e h r held = record {
     leads = λ f. omega arith;
@@ -147,7 +147,7 @@ module _ (kind a n p places floor : ℕ) (rows : Rows) where
       ap (λ (r : Rows). visit (at next (suc level) r) s) (sym same) ∙ ap (λ (l : ℕ). visit (at next l rows′) s) (sym (add-one level)))
 
   at-zero : (b : Bool) (next place level : ℕ) (visit : Thread → State → State) (s : State)
-      → follow visit (at place level rows) (cond b (Move.goOn (at next 0 rows)) Move.die) s ≡ cond b (visit (at next 0 rows) s) s
+      → follow visit (at place level rows) (cond b (Move.lead (at next 0 rows)) Move.die) s ≡ cond b (visit (at next 0 rows) s) s
   at-zero true next place level visit s = refl
   at-zero false next place level visit s = refl
 

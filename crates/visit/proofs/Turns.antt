@@ -12,7 +12,7 @@ use lib.ListN.{length, getD, set}
 use Rattle.paper.specs.Rows.{Rows}
 use Rattle.paper.specs.Machine.{Place, Thread, at, State, isSeen, isWon, mark, follow, arrive, visit, moveAt}
 use Rattle.paper.specs.Tables.{decode, placeAt, placeOf}
-use Rattle.paper.proofs.Once.{visit-blocked}
+use Rattle.paper.proofs.machine.Once.{visit-blocked}
 use Rattle.visit.specs.Threads.{left, rowsIn}
 use Rattle.visit.specs.Wired.{kindAt, nextAt, firstAt, manyAt, levelAfter}
 use Rattle.visit.specs.Shows.{AheadIn, Shows}

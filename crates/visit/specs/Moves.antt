@@ -16,7 +16,7 @@ use Rattle.visit.specs.Shows.{AheadIn, Shows, Carried}
 
 -- whether a place takes the byte at a position
 abbrev pub takesAt : Place → List ℕ → ℕ → Bool
-takesAt (Place.set ranges next) line p = takes ranges line p
+takesAt (Place.oneOf ranges next) line p = takes ranges line p
 takesAt Place.stop line p = false
 takesAt (Place.fork a b) line p = false
 takesAt (Place.opening k next) line p = false

@@ -11,7 +11,7 @@ use Rattle.paper.specs.Limits.{absent}
 use Rattle.paper.specs.Rows.{Rows}
 use Rattle.paper.specs.Machine.{State, isSeen, visit, at}
 use Rattle.paper.specs.Tables.{decode}
-use Rattle.paper.proofs.Once.{once, pairsOf}
+use Rattle.paper.proofs.machine.Once.{once, pairsOf}
 use Rattle.visit.specs.Threads.{threadNumbers, branchNumbers, rowsIn, placeIn, threads, left}
 use Rattle.visit.specs.Wired.{Wired}
 

@@ -4,7 +4,7 @@ use mathlib.Core.Path.{_≡_, sym, _∙_, ap}
 use mathlib.Core.List.{List}
 use borrow.Author.Needs.{needs}
 use Rattle.paper.specs.Refusal.{Checked, accepted}
-use Rattle.paper.specs.Piece.{Source, fromTemplate, fromLine, Span, pieceCall}
+use Rattle.paper.specs.PieceCalls.{Source, fromTemplate, fromLine, Span, pieceCall}
 use Rattle.template.specs.declared.Answer.{Answer}
 use Rattle.template.specs.Answer.{answerOf}
 use Rattle.template.proofs.Pieces.{Inside, call-inside}

@@ -7,7 +7,7 @@ use mathlib.Core.Logic.{⊎-elim}
 use lib.ListN.{getD}
 use borrow.Author.Needs.{needs}
 use Rattle.paper.specs.Rows.{rowStart, rowEnd}
-use Rattle.paper.specs.Piece.{isAbsent, rowSpan}
+use Rattle.paper.specs.PieceCalls.{isAbsent, rowSpan}
 use Rattle.template.proofs.Pieces.{row-absent, start-there, end-there, row-right, row-long, row-turned, row-read}
 use Rattle.template.proofs.row_part.Statement.{statement}
 use Rattle.template.proofs.row_part.Tie as tie

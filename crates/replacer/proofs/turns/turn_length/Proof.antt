@@ -6,7 +6,7 @@ use borrow.Author.Needs.{needs}
 use Rattle.replacer.proofs.Turning.{turn-counts-put, turn-counts-none}
 use Rattle.replacer.specs.Turn.{asTurn}
 use Rattle.replacer.specs.Given.{piecesOf}
-use Rattle.paper.proofs.ScanLengths.{put-most}
+use Rattle.paper.proofs.replacing.ScanLengths.{put-most}
 use Rattle.replacer.proofs.turns.turn_length.Statement.{statement}
 use Rattle.replacer.proofs.turns.turn_length.Tie as tie
 

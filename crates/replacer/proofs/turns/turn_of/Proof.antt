@@ -2,7 +2,7 @@
 use mathlib.Core.Path.{_≡_, refl, sym, subst}
 use Rattle.replacer.proofs.Turning.{turn-none}
 use Rattle.replacer.specs.Turn.{lastOf, foundOf, Finds, asTurn}
-use Rattle.paper.proofs.ScanWays.{turnOf}
+use Rattle.paper.proofs.replacing.ScanWays.{turnOf}
 use mathlib.Core.Bool.{Bool}
 use Rattle.replacer.proofs.turns.turn_of.Statement.{statement}
 use Rattle.replacer.proofs.turns.turn_of.Tie as tie

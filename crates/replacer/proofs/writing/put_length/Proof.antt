@@ -9,7 +9,7 @@ use Rattle.template.specs.declared.Record.{Record}
 use Rattle.template.specs.Record.{Shows}
 use Rattle.paper.specs.Template.{literal, reference}
 use Rattle.paper.specs.Replace.{putIn}
-use Rattle.paper.proofs.ScanLengths.{mostPut, put-most, part-length}
+use Rattle.paper.proofs.replacing.ScanLengths.{mostPut, put-most, part-length}
 use Rattle.replacer.specs.Given.{piecesOf}
 use Rattle.replacer.proofs.Putting.{Measuring, measure-start, measure-more, measure-end, measure-right}
 use Rattle.replacer.proofs.writing.put_length.Statement.{statement}

@@ -1,0 +1,2 @@
+-- Computed claims: 01's known answers and limits, and what they leave unseen.
+pub mod Known
