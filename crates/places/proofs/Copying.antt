@@ -129,8 +129,8 @@ unforked p kind next a n =
     (cond (eqb kind 3) (begin a n next)
     (cond (eqb kind 4) (beginOptional a n next)
     (cond (eqb kind 5) (ending next)
-    (cond (eqb kind 6) (set (rangesOf (part p a (a + 2 * n))) next)
-    (cond (eqb kind 7) (set (record { low = a; high = n } ∷ []) next)
+    (cond (eqb kind 6) (oneOf (rangesOf (part p a (a + 2 * n))) next)
+    (cond (eqb kind 7) (oneOf (record { low = a; high = n } ∷ []) next)
     (cond (eqb kind 9) accept stop)))))))
 
 unforked-moved : (g : ℕ → ℕ) (p : List ℕ) (kind next a n : ℕ) → unforked p kind (g next) a n ≡ movedPlace g (unforked p kind next a n)

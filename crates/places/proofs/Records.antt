@@ -233,7 +233,7 @@ range-laid {bs} {t' = t'} {start = start} {stop = stop} {base = base} {next = ne
     ∙ sym (one-range bs start (omega (arith, m .ends))) ∙ ap (λ (e : ℕ). rangesOf (part bs start e)) end in
     record {
       kept = put .kept;
-      held = subst (λ (r : List Range). Holds t' bs base (set r next)) own (put-holds bs put (omega arith) (λ six. absurd (omega arith)));
+      held = subst (λ (r : List Range). Holds t' bs base (oneOf r next)) own (put-holds bs put (omega arith) (λ six. absurd (omega arith)));
     }
 
 -- any other set: where its pairs stand, and how many they are
@@ -243,7 +243,7 @@ pairs-laid {bs} {t' = t'} {start = start} {stop = stop} {base = base} {next = ne
     let end : start + 2 * ((stop - start) / 2) ≡ stop = omega (arith, m .whole) in
     record {
       kept = put .kept;
-      held = subst (λ (e : ℕ). Holds t' bs base (set (rangesOf (part bs start e)) next)) end
+      held = subst (λ (e : ℕ). Holds t' bs base (oneOf (rangesOf (part bs start e)) next)) end
           (put-holds bs put (omega arith) (λ six. (omega (arith, m .ends), omega (arith, m .whole, m .few))));
     }
 
@@ -270,7 +270,7 @@ set-laid {bs} {at} {base = base} {next = next} {first = first} {t' = t'} some ek
       laid = λ m.
           let v = set-view (m .tree) bs at (m .inside .stand) (sym ek ∙ two) in
           let ranges = ap (λ (e : ℕ). rangesOf (part bs (at + 4) e)) (sym (m .inside .end-is)) ∙ v .pairs .found in
-          as-tree t' bs first base next (v .is) (subst (λ (r : List Range). Holds t' bs base (set r next)) ranges (r .held));
+          as-tree t' bs first base next (v .is) (subst (λ (r : List Range). Holds t' bs base (oneOf r next)) ranges (r .held));
     }
 
 -- a group: its open, what it holds, its close

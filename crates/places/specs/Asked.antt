@@ -125,7 +125,7 @@ pub record Ranged (bs : List ℕ) (start stop base next : ℕ) : Type 0 where
 
 pub record RangedLaid (bs : List ℕ) (start stop base next : ℕ) (before after : List ℕ) : Type 0 where
   pub kept : Kept base (base + 1) before after
-  pub held : Holds after bs base (set (rangesOf (part bs start stop)) next)
+  pub held : Holds after bs base (oneOf (rangesOf (part bs start stop)) next)
 
 -- `one`: a record that has so many places and groups, and room for the places
 pub record One (bs : List ℕ) (at stop base next first n g : ℕ) : Type 0 where
