@@ -11,16 +11,16 @@ use lib.Seq.{take-all, drop-length}
 use borrow.Rule.Slice.PartMut.{midOf, postOf, putMid, put-same, post-is}
 use Rattle.paper.specs.Limits.{lineBytes}
 use Rattle.matcher.specs.declared.Answer.{Answer}
-use Rattle.matcher.specs.declared.Built.{Built}
-use Rattle.matcher.specs.declared.Built.the-variants.{Refused, Machine}
-use Rattle.matcher.specs.Machine.{Ready, Runnable, Builds}
+use Rattle.machine.specs.declared.Built.{Built}
+use Rattle.machine.specs.declared.Built.the-variants.{Refused, Machine}
+use Rattle.machine.specs.Machine.{Ready, Runnable, Builds}
 use Rattle.matcher.specs.Answer.{answerOf}
 use Rattle.matcher.specs.Promise.{Answers}
-use Rattle.matcher.proofs.Wiring.{ready-places, ready-pairs, ready-runs}
-use Rattle.exports.specs.Told.{Numbered}
+use Rattle.machine.proofs.Wiring.{ready-places, ready-pairs, ready-runs}
+use Rattle.telling.specs.Told.{Numbered, builtNumbers}
 use Rattle.exports.specs.Memory.{headNumbers, machineNumbers, scratchNumbers, shortest, MachineOf, Holds, BuildsIn}
-use Rattle.exports.proofs.Numbered.{match-numbered, search-numbered}
-use Rattle.exports.proofs.Telling.{numbered-as}
+use Rattle.telling.proofs.Numbered.{pattern-numbered, match-numbered, search-numbered}
+use Rattle.telling.proofs.Telling.{numbered-as}
 
 -- the memory with a table put behind its head
 abbrev withTable : List ℕ → List ℕ → List ℕ
@@ -93,3 +93,8 @@ ready-in seen taken lists pending m short room =
 pub answers-numbered : (searches : Bool) (pattern line table : List ℕ) (r : Answer) (after : List ℕ) → Answers searches pattern line table r after → Numbered (answerOf r)
 answers-numbered false pattern line table r after a = numbered-as (a .answer) (match-numbered pattern line table)
 answers-numbered true pattern line table r after a = numbered-as (a .answer) (search-numbered pattern line table)
+
+-- what building promised has a refusal's number, if it was refused
+pub built-numbered : (pattern : List ℕ) (searches : Bool) (before after : List ℕ) (r : Built) → BuildsIn pattern searches before after r → Numbered (builtNumbers r)
+built-numbered pattern searches before after (Refused number place) b = numbered-as (sym (b .0)) (pattern-numbered pattern)
+built-numbered pattern searches before after (Machine places deep many) b = tt

@@ -14,18 +14,18 @@ use Rattle.pattern.specs.declared.Answer as checking
 use Rattle.pattern.specs.Answer.{answerOf}
 use Rattle.pattern.proofs.Answering.{one-answer}
 use Rattle.matcher.specs.declared.Answer as matching
-use Rattle.matcher.specs.declared.Built.{Built}
-use Rattle.matcher.specs.declared.Built.the-variants.{Refused, Machine}
+use Rattle.machine.specs.declared.Built.{Built}
+use Rattle.machine.specs.declared.Built.the-variants.{Refused, Machine}
 use Rattle.matcher.specs.Answer as found
-use Rattle.matcher.specs.Machine.{wrapped}
+use Rattle.machine.specs.Machine.{wrapped}
 use Rattle.matcher.specs.Promise.{Answers}
 use Rattle.matcher.proofs.Answering.{one-match, one-search}
 use Rattle.replacer.specs.declared.Replaced as replacing
 use Rattle.replacer.specs.Answer as replaced
 use Rattle.replacer.proofs.Promises.{one-replaced}
-use Rattle.exports.specs.Told.{Tells, checkNumbers, foundNumbers, replacedNumbers}
+use Rattle.telling.specs.Told.{Tells, checkNumbers, foundNumbers, replacedNumbers, builtNumbers}
 use Rattle.exports.specs.Memory.{machineNumbers, scratchNumbers, searchesIn, BuildsIn}
-use Rattle.exports.specs.Replies.{Untouched, CheckReplies, MatchReplies, SearchReplies, ReplaceReplies, PieceReplies, builtNumbers, BuildReplies, RunReplies}
+use Rattle.exports.specs.Replies.{Untouched, CheckReplies, MatchReplies, SearchReplies, ReplaceReplies, PieceReplies, BuildReplies, RunReplies}
 
 -- lent memory is too short or long enough
 by-length : {P : Type 0} (long room : ℕ) → (long < room → P) → (room ≤ long → P) → P

@@ -9,9 +9,9 @@ use Rattle.paper.specs.Refusal.{Checked, refused, accepted}
 use Rattle.paper.specs.Pattern.{groups}
 use Rattle.paper.specs.Check.{patternOf}
 use Rattle.places.specs.Asked.{mostPlaces, tableRoom}
-use Rattle.matcher.specs.Machine.{Ready, pendingNumbers}
-use Rattle.matcher.specs.declared.Built.{Built}
-use Rattle.matcher.specs.declared.Built.the-variants.{Refused, Machine}
+use Rattle.machine.specs.Machine.{Ready, pendingNumbers}
+use Rattle.machine.specs.declared.Built.{Built}
+use Rattle.machine.specs.declared.Built.the-variants.{Refused, Machine}
 
 -- the numbers before a machine's table: its places, its depth, and 1 where it searches
 abbrev pub headNumbers : ℕ

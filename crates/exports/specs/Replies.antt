@@ -2,21 +2,19 @@
 use Prim.Native.Nat.{ℕ, _≤_, _<_}
 use mathlib.Core.Path.{_≡_}
 use mathlib.Core.Bool.{Bool}
-use mathlib.Core.List.{List, [], _∷_}
+use mathlib.Core.List.{List}
 use lib.ListN.{length}
-use Rattle.paper.specs.Refusal.{Checked, refused, accepted}
 use Rattle.paper.specs.PieceCalls.{pieceCall}
 use Rattle.pattern.specs.declared.Answer as checking
 use Rattle.pattern.specs.Answer.{answerOf, Checks}
 use Rattle.matcher.specs.declared.Answer as matching
-use Rattle.matcher.specs.declared.Built.{Built}
-use Rattle.matcher.specs.declared.Built.the-variants.{Refused, Machine}
+use Rattle.machine.specs.declared.Built.{Built}
 use Rattle.matcher.specs.Answer as found
 use Rattle.matcher.specs.Promise.{Matches, Searches, Answers}
 use Rattle.replacer.specs.declared.Replaced as replacing
 use Rattle.replacer.specs.Answer as replaced
 use Rattle.replacer.specs.Promise.{Replaces}
-use Rattle.exports.specs.Told.{tooShort, Tells, checkNumbers, foundNumbers, spanNumbers, replacedNumbers}
+use Rattle.telling.specs.Told.{tooShort, Tells, checkNumbers, foundNumbers, spanNumbers, replacedNumbers, builtNumbers}
 use Rattle.exports.specs.Memory.{machineNumbers, scratchNumbers, searchesIn, shortest, BuildsIn}
 
 -- refused as too short, `out` as it was
@@ -48,11 +46,6 @@ pub record ReplaceReplies (pattern template line buffer buffer′ out : List ℕ
 pub record PieceReplies (template line table : List ℕ) (number : ℕ) (out : List ℕ) (status : ℕ) (after : List ℕ) : Type 0 where
   pub short : length out < 3 → Untouched out status after
   pub told : 3 ≤ length out → Tells (spanNumbers (pieceCall template line table number)) out status after
-
--- what building answers, as numbers: the machine's places and depth, and the pattern's groups
-abbrev pub builtNumbers : Built → Checked (List ℕ)
-builtNumbers (Refused number place) = refused number place
-builtNumbers (Machine places deep many) = accepted (places ∷ deep ∷ many ∷ [])
 
 -- `toj_build`: an answer that building promises, with the machine's memory afterwards, told
 pub record BuildReplies (pattern : List ℕ) (searches : Bool) (machine machine′ out : List ℕ) (status : ℕ) (after : List ℕ) : Type 0 where

@@ -1,13 +1,13 @@
 // Building a machine into lent memory, and running it on many lines.
 use crate::limits::Memory;
-use crate::tell::Status;
-use crate::tell::tell_built;
-use crate::tell::tell_found;
+use machine::Built;
 use matcher::Answer;
-use matcher::Built;
 use pattern::Line;
 use pattern::Refusal;
 use pattern::Spans;
+use telling::Status;
+use telling::tell_built;
+use telling::tell_found;
 ghost use mathlib.Core.Path.{_≡_};
 ghost use mathlib.Core.Bool.{Bool, true, false};
 ghost use Prim.Native.Nat.{_≤_, min};
@@ -22,7 +22,7 @@ fn build_in(pattern: &[u8], searches: bool, machine: &mut [u16]) -> Built
     requires { ⌜ machineNumbers ≤ length (now machine) ⌝ }
     ensures { λ r. ⌜ BuildsIn (now (pattern .entry)) searches (now (machine .entry)) (now (machine .exit)) r ⌝ }
 {
-    match matcher::build(pattern, searches, &mut machine[Memory::HEAD..]) {
+    match machine::build(pattern, searches, &mut machine[Memory::HEAD..]) {
         Built::Refused { number, place } => Built::Refused { number, place },
         Built::Machine {
             places,
@@ -89,7 +89,7 @@ fn run_in(
     let places = machine[0] as usize;
     let depth = machine[1] as usize;
     let searches = machine[2] == 1;
-    let ran = matcher::find_in(
+    let ran = machine::find_in(
         pattern,
         &machine[Memory::HEAD..],
         searches,

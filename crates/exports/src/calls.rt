@@ -1,9 +1,9 @@
 // Checking, whole match, search and piece. Lent memory that is too short is refused first, and then nothing is touched.
-use crate::tell::Status;
-use crate::tell::tell_checked;
-use crate::tell::tell_found;
-use crate::tell::tell_piece;
-use crate::tell::tell_replaced;
+use telling::Status;
+use telling::tell_checked;
+use telling::tell_found;
+use telling::tell_piece;
+use telling::tell_replaced;
 ghost use mathlib.Core.Path.{_≡_};
 ghost use Rattle.exports.specs.Replies.{CheckReplies, MatchReplies, SearchReplies, ReplaceReplies, PieceReplies};
 

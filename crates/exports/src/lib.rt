@@ -2,4 +2,3 @@
 mod built;
 mod calls;
 mod limits;
-mod tell;

@@ -14,9 +14,9 @@ impl Memory {
     // a machine's places, its depth, and whether it searches
     pub const HEAD: usize = 3;
     // these, and its table
-    pub const MACHINE: usize = Memory::HEAD + matcher::Machine::CODE;
+    pub const MACHINE: usize = Memory::HEAD + machine::Machine::CODE;
     // the branches that wait, which are the longest thing that a run needs
-    pub const SCRATCH: usize = matcher::Machine::PENDING;
+    pub const SCRATCH: usize = machine::Machine::PENDING;
 }
 
 // The longest pattern.

@@ -2,8 +2,8 @@
 use crate::answers;
 use crate::listing;
 use crate::words;
-use matcher::Built;
-use matcher::Machine;
+use machine::Built;
+use machine::Machine;
 use pattern::PlaceKind;
 ghost use Prim.Native.Nat.{_≤_};
 ghost use lib.ListN.{length};
@@ -28,7 +28,7 @@ fn listed(out: &mut [u8], at: usize, pattern: &[u8], code: &[u16], places: usize
 // A pattern's numbers and places, as they are built for a whole match or for a search, or its refusal.
 pub fn built(out: &mut [u8], at: usize, pattern: &[u8], searches: bool) -> Shown {
     let mut code = [0u16; Machine::CODE];
-    match matcher::build(pattern, searches, &mut code) {
+    match machine::build(pattern, searches, &mut code) {
         Built::Refused { number, place } => Shown {
             printed: job::print_refused(out, at, number, place, false),
             groups: 0,

@@ -21,8 +21,8 @@ use Rattle.matcher.specs.declared.Answer.{Answer}
 use Rattle.matcher.specs.declared.Answer.the-variants.{Refused, Match, NoMatch}
 use Rattle.matcher.specs.Answer.{answerOf, stepsTold, TellsSteps}
 use Rattle.matcher.specs.Promise.{Matches, Searches, Answers}
-use Rattle.matcher.specs.Machine.{Gives, FoundGives}
-use Rattle.matcher.proofs.Running.{found-stays}
+use Rattle.machine.specs.Machine.{Gives, FoundGives}
+use Rattle.machine.proofs.Running.{found-stays}
 
 -- The one answer
 

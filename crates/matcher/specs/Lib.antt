@@ -1,4 +1,3 @@
 -- What the contracts of this crate cite beside `paper`.
 pub mod Answer
 pub mod Promise
-pub mod Machine

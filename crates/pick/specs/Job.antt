@@ -6,7 +6,7 @@ use lib.ListN.{length}
 use mathlib.Core.Path.{_≡_}
 use Rattle.paper.specs.Limits.{patternLevels}
 use Rattle.places.specs.Asked.{mostPlaces, tableRoom}
-use Rattle.matcher.specs.Machine.{Ready, listsNumbers, pendingNumbers, Scratch}
+use Rattle.machine.specs.Machine.{Ready, listsNumbers, pendingNumbers, Scratch}
 
 -- what reading lines asks: a machine as it was built, scratch for it, and a window inside the buffer
 pub record Lines (buffer pattern code : List ℕ) (places depth : ℕ) (seen taken lists pending : List ℕ) (start end : ℕ) : Type 0 where

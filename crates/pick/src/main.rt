@@ -4,14 +4,14 @@ mod window;
 
 use job::Job;
 use job::Next;
-use matcher::Built;
-use matcher::Machine;
+use machine::Built;
+use machine::Machine;
 use window::Window;
 ghost use Prim.Native.Nat.{_≤_};
 ghost use mathlib.Core.Bool.{false};
 ghost use lib.ListN.{length};
 ghost use Rattle.paper.specs.Limits.{lineBytes};
-ghost use Rattle.matcher.specs.Machine.{Runnable};
+ghost use Rattle.machine.specs.Machine.{Runnable};
 ghost use Rattle.pick.specs.Job.{Lines, Tables};
 
 // How far the job is: the window of the input, how much is gathered for printing, and whether it goes on.
@@ -54,7 +54,7 @@ fn answer_line(
 ) -> usize
     requires { ⌜ Runnable (now pattern) (now code) (now line) false places depth 0 (now seen) (now taken) (now lists) (now pending) ⌝ }
 {
-    let ran = matcher::match_rows(
+    let ran = machine::match_rows(
         pattern,
         code,
         places,
@@ -193,7 +193,7 @@ fn with_pattern(
 ) -> usize
     requires { ⌜ Tables (now buffer) (now code) (now seen) (now taken) (now lists) (now pending) (window .start) (window .end) ⌝ }
 {
-    match matcher::build(pattern, false, code) {
+    match machine::build(pattern, false, code) {
         Built::Refused { number, place } => { job::print_refused(out, 0, number, place, false) }
         Built::Machine {
             places,

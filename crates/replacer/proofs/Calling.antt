@@ -17,8 +17,8 @@ use Rattle.paper.specs.Replace.{Scanned, replaceAll, replaceCall, replaceAnswer
 use Rattle.paper.proofs.replacing.ReplaceBound.{replaceAll-steps}
 use Rattle.template.specs.Record.{referencesCall}
 use Rattle.template.proofs.Records.{references-right, references-refused}
-use Rattle.matcher.specs.declared.Built.{Built}
-use Rattle.matcher.specs.Machine.{Ready, Builds}
+use Rattle.machine.specs.declared.Built.{Built}
+use Rattle.machine.specs.Machine.{Ready, Builds}
 use Rattle.replacer.specs.declared.Replaced.{Replaced}
 use Rattle.replacer.specs.declared.scans.Measured.{Measured}
 use Rattle.replacer.specs.Given.{acceptedOr, treeOf, piecesOf, Right, Replaceable, wholeOf}

@@ -16,7 +16,7 @@ use Rattle.paper.proofs.replacing.ReplaceBound.{mostSum, replaceAll-most}
 use Rattle.paper.proofs.replacing.ScanWays as ways
 use Rattle.paper.proofs.replacing.ScanWays.{turnBytes, turnCount, turnRest, ended, TurnFits, turn-fits, scanFrom, scan-whole, scan-turn}
 use Rattle.paper.proofs.replacing.ScanLengths.{mostOutput, replaceAll-short}
-use Rattle.matcher.specs.Machine.{Ready, Runnable}
+use Rattle.machine.specs.Machine.{Ready, Runnable}
 use Rattle.replacer.specs.declared.turns.Turn.{Turn}
 use Rattle.replacer.specs.Given.{acceptedOr, treeOf, piecesOf, Right, wholeOf}
 use Rattle.replacer.specs.Turn.{lastOf, asTurn}

@@ -13,7 +13,7 @@ use Rattle.paper.specs.Replace.{moved}
 use Rattle.paper.proofs.reading.AnswerRows.{Answered}
 use Rattle.paper.proofs.replacing.ScanTurns.{Ahead, match-ahead}
 use Rattle.paper.proofs.replacing.ScanWays.{turnOf}
-use Rattle.matcher.specs.Machine.{Ready, Gives, SearchGives}
+use Rattle.machine.specs.Machine.{Ready, Gives, SearchGives}
 use Rattle.replacer.specs.declared.turns.Turn.{Turn}
 use Rattle.replacer.specs.Given.{treeOf}
 use Rattle.replacer.specs.Turn.{lastOf, foundOf, Finds, asTurn}

@@ -10,7 +10,7 @@ use Rattle.paper.specs.Pattern.{Pattern, groups}
 use Rattle.paper.specs.Check.{patternOf}
 use Rattle.paper.specs.Template.{Piece, templateOf, within}
 use Rattle.paper.specs.Replace.{Scanned, replaceAll}
-use Rattle.matcher.specs.Machine.{Ready}
+use Rattle.machine.specs.Machine.{Ready}
 
 -- what was accepted, or something else
 abbrev pub acceptedOr : {A : Type 0} → A → Checked A → A

@@ -3,16 +3,16 @@ mod scans;
 mod turns;
 mod writing;
 
-use matcher::Built;
-use matcher::Machine;
-use matcher::Small;
+use machine::Built;
+use machine::Machine;
+use machine::Small;
 use pattern::Line;
 use pattern::Refusal;
 use template::References;
 ghost use mathlib.Core.Path.{_≡_};
 ghost use mathlib.Core.Bool.{Bool};
 ghost use Rattle.paper.specs.Pattern.{groups};
-ghost use Rattle.matcher.specs.Machine.{Ready, Scratch, fitsSmall};
+ghost use Rattle.machine.specs.Machine.{Ready, Scratch, fitsSmall};
 ghost use Rattle.replacer.specs.Given.{treeOf, Replaceable};
 ghost use Rattle.replacer.specs.Promise.{Replaces};
 
@@ -161,7 +161,7 @@ fn replace_within(
     requires { ⌜ Replaceable (now pattern) (now code) places depth (now template) (now line) ⌝ }
     ensures { λ r. ⌜ Replaces (now (pattern .entry)) (now (template .entry)) (now (line .entry)) (now (buffer .entry)) r (now (buffer .exit)) ⌝ }
 {
-    if matcher::is_small(places, depth) {
+    if machine::is_small(places, depth) {
         replace_small(pattern, code, places, depth, template, line, buffer)
     } else {
         replace_large(pattern, code, places, depth, template, line, buffer)
@@ -209,7 +209,7 @@ pub fn replace_all(pattern: &[u8], template: &[u8], line: &[u8], buffer: &mut [u
     ensures { λ r. ⌜ Replaces (now (pattern .entry)) (now (template .entry)) (now (line .entry)) (now (buffer .entry)) r (now (buffer .exit)) ⌝ }
 {
     let mut code = [0u16; Machine::CODE];
-    match matcher::build(pattern, true, &mut code) {
+    match machine::build(pattern, true, &mut code) {
         Built::Refused { number, place } => Replaced::Refused { number, place },
         Built::Machine {
             places,

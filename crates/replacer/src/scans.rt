@@ -6,7 +6,7 @@ ghost use mathlib.Core.Bool.{Bool, cond};
 ghost use mathlib.Core.List.{_++_};
 ghost use Prim.Native.Nat.{ℕ, _≤_};
 ghost use lib.ListN.{length, drop};
-ghost use Rattle.matcher.specs.Machine.{Runnable};
+ghost use Rattle.machine.specs.Machine.{Runnable};
 ghost use Rattle.replacer.specs.Given.{Right, wholeOf};
 ghost use Rattle.replacer.specs.Scans.{Turns, Measures};
 
@@ -34,7 +34,7 @@ fn search_turn(
     requires { ⌜ Runnable (now pattern) (now code) (now line) Bool.true places depth from (now seen) (now taken) (now lists) (now pending) ⌝ }
     ensures { λ r. ⌜ Turns (now (pattern .entry)) (now (line .entry)) from last r ⌝ }
 {
-    let ran = matcher::search_rows(
+    let ran = machine::search_rows(
         pattern,
         code,
         places,

@@ -7,7 +7,7 @@ use native.Mathlib.Omega.{arith}
 use lib.Dec.{ltb}
 use lib.ListN.{length, replicate, length-replicate}
 use Rattle.paper.specs.Rows.{Rows, noRows}
-use Rattle.visit.specs.Threads.{rowsFrom, stored}
+use Rattle.threads.specs.Threads.{rowsFrom, stored}
 use Rattle.run.specs.Steps.{listOf, Stepping, Steps, Running, Runs, stoppedAs}
 use Rattle.run.proofs.Lists.{list-long, thread-room, rows-of}
 use Rattle.run.proofs.Position.{Position, position-first, position-asked, position-next, position-last, position-less, at-cells}

@@ -1,13 +1,13 @@
 -- Two lists of threads that stand one behind the other in one memory: what is read from one, and that writing one leaves the other.
-use Prim.Native.Nat.{ℕ, zero, suc, _+_, _-_, _*_, _≤_, _<_}
-use mathlib.Core.Path.{_≡_, refl, sym, ap, ap₂, _∙_, subst, subst₂}
+use Prim.Native.Nat.{ℕ, _+_, _-_, _*_, _≤_, _<_}
+use mathlib.Core.Path.{_≡_, sym, ap, ap₂, _∙_}
 use mathlib.Core.Bool.{Bool, true, false, cond, not}
 use mathlib.Core.List.{List, _++_}
 use native.Mathlib.Omega.{arith}
-use lib.ListN.{length, getD, take, drop, length-take, length-drop}
+use lib.ListN.{length, getD, take, drop, length-drop}
 use lib.Seq.{getD-take, getD-drop, ext-getD, length-take-le, drop-at, take-at}
 use borrow.Rule.Slice.PartMut.{putMid, postOf, take-put, drop-put}
-use Rattle.visit.specs.Threads.{placeIn, rowsIn, rowsFrom}
+use Rattle.threads.specs.Threads.{placeIn, rowsIn, rowsFrom}
 use Rattle.run.specs.Steps.{listOf}
 
 -- where a list begins

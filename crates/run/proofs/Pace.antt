@@ -1,5 +1,5 @@
 -- The threads of one of two lists visited in order, those that they carry written into the other: what holds between two of them.
-use Prim.Native.Nat.{ℕ, _+_, _-_, _*_, _≤_, _<_}
+use Prim.Native.Nat.{ℕ, _+_, _-_, _*_, _≤_}
 use mathlib.Core.Path.{_≡_, refl, sym, ap, _∙_, subst}
 use mathlib.Core.Bool.{Bool, true, false, cond, not, _&&_}
 use mathlib.Core.List.{List}
@@ -8,11 +8,11 @@ use lib.Dec.{ltb}
 use lib.ListN.{length, getD, take, drop}
 use borrow.Rule.Slice.PartMut.{putMid}
 use Rattle.paper.specs.Rows.{Rows}
-use Rattle.visit.specs.Threads.{placeIn, rowsIn, rowsFrom}
-use Rattle.visit.specs.Shows.{Arrives, Visits}
-use Rattle.run.specs.Steps.{listOf, Stepping, Steps}
+use Rattle.threads.specs.Threads.{placeIn, rowsIn, rowsFrom}
+use Rattle.visit.specs.Visits.{Arrives, Visits}
+use Rattle.run.specs.Steps.{listOf, Stepping}
 use Rattle.run.proofs.Lists.{list-long, thread-room, place-of, rows-of, other-room, other-list, other-put, first-kept}
-use Rattle.run.proofs.Walk.{Walk, walk-first, walk-room, walk-asked, walk-next, walk-last, walk-less}
+use Rattle.run.proofs.Walk.{Walk, walk-first, walk-room, walk-asked, walk-next}
 
 pub record Pace (code pattern line : List ℕ) (places p : ℕ) (seen₀ taken₀ lists₀ pending₀ : List ℕ) (second : Bool) (number steps₀ : ℕ)
     (seen taken lists pending : List ℕ) (i count steps : ℕ) (done goes : Bool) : Type 0 where

@@ -13,10 +13,9 @@ use Rattle.paper.specs.Rows.{Rows, noRows}
 use Rattle.paper.specs.Machine.{Place, Thread, at, fresh, visits, settle, run, Stopped}
 use Rattle.paper.specs.Tables.{decode}
 use Rattle.paper.proofs.machine.Once.{once, run-once}
-use Rattle.visit.specs.Threads.{placeIn, rowsFrom, rowsIn, threadIn, threads, stored}
+use Rattle.threads.specs.Threads.{placeIn, rowsFrom, rowsIn, threadIn, threads, stored, Under}
 use Rattle.visit.specs.Wired.{Wired}
-use Rattle.visit.specs.Shows.{Under}
-use Rattle.visit.proofs.Stores.{stored-long, stored-place, stored-rows}
+use Rattle.threads.proofs.Stores.{stored-long, stored-place, stored-rows}
 use Rattle.visit.proofs.Loop.{rewire, at-most-one}
 use Rattle.run.specs.Steps.{listOf, Stepping, Steps, Running, stoppedAs}
 use Rattle.run.proofs.Lists.{list-long, place-of, rows-of}
@@ -147,10 +146,6 @@ module _ {code pattern line : List ℕ} {places start cells : ℕ} {seen taken c
     pending-long = pending-long;
     countable = omega (arith, q .bounded, q .within go, q .line-long, q .small, q .long);
   }
-
-  -- the winner stands behind the threads
-  pub position-room : 21 * number + 21 ≤ length current
-  position-room = omega (arith, q .few, q .current-long)
 
   -- it holds again at the next position
   pub position-next : goes ≡ true → (seen′ taken′ spare′ : List ℕ) (count steps′ : ℕ) (done goes′ : Bool)

@@ -14,10 +14,11 @@ use Rattle.paper.specs.Rows.{Rows}
 use Rattle.paper.specs.Machine.{Place, Thread, at, State, fresh, isWon, isSeen, visit, visits}
 use Rattle.paper.specs.Tables.{decode}
 use Rattle.paper.proofs.machine.Once.{visit-blocked}
-use Rattle.visit.specs.Threads.{placeIn, rowsIn, threadIn, threads, left}
+use Rattle.threads.specs.Threads.{placeIn, rowsIn, threadIn, threads, left, Under}
+use Rattle.moves.specs.Shows.{Shows, Carried}
 use Rattle.visit.specs.Wired.{Wired}
-use Rattle.visit.specs.Shows.{Shows, Carried, Under, Arrives, Visits}
-use Rattle.visit.proofs.Stamps.{left-all}
+use Rattle.visit.specs.Visits.{Arrives, Visits}
+use Rattle.threads.proofs.Stamps.{left-all}
 use Rattle.visit.proofs.Loop.{rewire, at-most-one}
 use Rattle.run.specs.Steps.{Stepping, Steps}
 

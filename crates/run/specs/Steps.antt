@@ -8,9 +8,9 @@ use Rattle.paper.specs.Limits.{lineBytes, absent}
 use Rattle.paper.specs.Rows.{Rows, noRows}
 use Rattle.paper.specs.Machine.{at, fresh, visits, run, Stopped}
 use Rattle.paper.specs.Tables.{decode}
-use Rattle.visit.specs.Threads.{threadNumbers, branchNumbers, placeIn, threads}
+use Rattle.threads.specs.Threads.{threadNumbers, branchNumbers, placeIn, threads, Under}
+use Rattle.moves.specs.Shows.{Shows, Carried}
 use Rattle.visit.specs.Wired.{Wired}
-use Rattle.visit.specs.Shows.{Shows, Carried, Under}
 
 -- one of two lists that stand one behind the other
 abbrev pub listOf : ℕ → Bool → List ℕ → List ℕ

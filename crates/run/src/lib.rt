@@ -1,14 +1,14 @@
 // The positions of the line one after the other: the threads of a list visited in order, and those that they carry.
+use moves::Ahead;
 use pattern::Spans;
-use visit::Ahead;
 use visit::Visited;
 ghost use mathlib.Core.Path.{_≡_};
 ghost use mathlib.Core.Bool.{not, cond, _&&_};
-ghost use Prim.Native.Nat.{ℕ, _+_, _*_, _≤_, _<_};
+ghost use Prim.Native.Nat.{_+_, _*_, _≤_, _<_};
 ghost use lib.Dec.{ltb};
 ghost use lib.ListN.{length, replicate};
-ghost use Rattle.visit.specs.Threads.{threadNumbers};
-ghost use Rattle.visit.specs.Shows.{AheadIn};
+ghost use Rattle.threads.specs.Threads.{threadNumbers};
+ghost use Rattle.moves.specs.Shows.{AheadIn};
 ghost use Rattle.run.specs.Steps.{listOf, Stepping, Steps, Running, Runs};
 
 // How the machine stopped, with the steps made and, where it matched, the winner's rows.
@@ -48,7 +48,7 @@ fn ahead_at(line: &[u8], at: u16) -> Ahead
     requires { ⌜ at ≤ length (now line) ⌝ }
     ensures { λ r. ⌜ AheadIn (now (line .entry)) at (r .there) (r .byte) ⌝ }
 {
-    let p = visit::wide(at);
+    let p = threads::wide(at);
     if p < line.len() {
         Ahead {
             there: true,
@@ -82,7 +82,7 @@ fn step(
     requires { ⌜ at ≤ length (now line) ⌝ }
     ensures { λ r. ⌜ Steps (now (code .entry)) (now (pattern .entry)) (now (line .entry)) places at (now (seen .entry)) (now (taken .entry)) (listOf places second (now (lists .entry))) number before (now (seen .exit)) (now (taken .exit)) (listOf places (not second) (now (lists .exit))) (r .count) (r .steps) (r .done) ⌝ }
 {
-    let long = visit::THREAD * (places + 1);
+    let long = threads::THREAD * (places + 1);
     let from = list_at(second, long);
     let to = list_at(!second, long);
     let end = to + long;
@@ -93,9 +93,9 @@ fn step(
     let mut done = false;
     let mut goes = true;
     while goes {
-        let b = from + visit::THREAD * i;
-        let place = visit::wide(lists[b]);
-        let rows = visit::load(lists, b);
+        let b = from + threads::THREAD * i;
+        let place = threads::wide(lists[b]);
+        let rows = threads::load(lists, b);
         let r = visit::visit(
             code,
             pattern,
@@ -151,7 +151,7 @@ pub fn run(
     wipe(seen);
     wipe(taken);
     let absent = [Spans::ABSENT; Spans::NUMBERS];
-    visit::store(lists, 0, 0, absent);
+    threads::store(lists, 0, 0, absent);
     let mut at = start;
     let mut number = 1;
     let mut steps = 0;
@@ -176,12 +176,12 @@ pub fn run(
         number = r.count;
         steps = r.steps;
         matched = r.done;
-        goes = proceeds(matched, number, visit::wide(at), line.len());
+        goes = proceeds(matched, number, threads::wide(at), line.len());
         at = at + 1;
         second = !second;
     }
-    let b = list_at(second, visit::THREAD * (places + 1)) + visit::THREAD * number;
-    let rows = visit::load(lists, b);
+    let b = list_at(second, threads::THREAD * (places + 1)) + threads::THREAD * number;
+    let rows = threads::load(lists, b);
     Ran {
         matched,
         steps,

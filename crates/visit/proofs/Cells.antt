@@ -15,8 +15,9 @@ use lib.Seq.{getD-set-same, getD-set-other, getD-at}
 use Rattle.paper.specs.Rows.{Rows}
 use Rattle.paper.specs.Machine.{at, State, isSeen, isWon, blocked, mark, stop}
 use Rattle.paper.specs.Tables.{decode, placeAt}
-use Rattle.visit.specs.Wired.{Wired, kindAt, nextAt, levelAfter}
-use Rattle.visit.specs.Shows.{Shows}
+use Rattle.moves.specs.Shows.{Shows}
+use Rattle.moves.specs.Moves.{kindAt, nextAt, levelAfter}
+use Rattle.visit.specs.Wired.{Wired}
 
 -- ---- entries
 

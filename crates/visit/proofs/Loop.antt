@@ -7,18 +7,19 @@ use mathlib.Core.List.{List, [], _∷_}
 use native.Mathlib.Omega.{arith}
 use native.Mathlib.Nat.{suc-mul, zero-mul}
 use native.Mathlib.Decide.{ℕ-discrete}
-use borrow.Author.Tests.{not-true, not-false, eq-eqb, ne-eqb}
+use borrow.Author.Tests.{not-true, not-false, ne-eqb}
 use lib.Dec.{eqb, eqb·suc-zero}
 use lib.ListN.{length, getD, set, drop, length-set, length-drop}
 use lib.Seq.{length-take-le}
 use Rattle.paper.specs.Rows.{Rows}
 use Rattle.paper.specs.Machine.{Thread, at, State, visit}
 use Rattle.paper.specs.Tables.{decode}
-use Rattle.visit.specs.Threads.{left, waited, rowsFrom}
-use Rattle.visit.specs.Wired.{Wired, Slots, kindAt, levelAfter}
-use Rattle.visit.specs.Shows.{AheadIn, Shows, Carried, Under, Arrives, Visits}
-use Rattle.visit.specs.Moves.{Leads, Settling, Settles}
-use Rattle.visit.proofs.Stamps.{left-mark, mark-same, under-mark}
+use Rattle.threads.specs.Threads.{left, waited, rowsFrom, Under}
+use Rattle.moves.specs.Shows.{AheadIn, Shows, Carried}
+use Rattle.moves.specs.Moves.{Slots, kindAt, levelAfter, Leads, Settling, Settles}
+use Rattle.visit.specs.Wired.{Wired}
+use Rattle.visit.specs.Visits.{Arrives, Visits}
+use Rattle.threads.proofs.Stamps.{left-mark, mark-same, under-mark}
 use Rattle.visit.proofs.Cells.{cell-inside, deep-after}
 use Rattle.visit.proofs.Waiting.{leftLow, low-most, low-mark, low-other, reach, Waits, waits-fewer, waited-long, waits-more, Taken, waits-less, waits-none}
 use Rattle.visit.proofs.Turns.{Stands, Reads, stands-seen, stands-lead, stands-settle, stands-fork}

@@ -4,7 +4,7 @@ use Prim.Native.Nat.{ℕ, zero, suc, _+_, _*_, _≤_, _<_}
 use mathlib.Core.Path.{_≡_, refl, sym, ap, _∙_, subst}
 use mathlib.Core.Bool.{Bool, true, false, cond, not, _||_}
 use mathlib.Core.List.{List, [], _∷_}
-use mathlib.Core.Option.{Option, none, some}
+use mathlib.Core.Option.{none, some}
 use native.Mathlib.Omega.{arith}
 use borrow.Author.Tests.{not-true, not-false}
 use lib.Dec.{eqb}
@@ -13,11 +13,10 @@ use Rattle.paper.specs.Rows.{Rows}
 use Rattle.paper.specs.Machine.{Place, Thread, at, State, isSeen, isWon, mark, follow, arrive, visit, moveAt}
 use Rattle.paper.specs.Tables.{decode, placeAt, placeOf}
 use Rattle.paper.proofs.machine.Once.{visit-blocked}
-use Rattle.visit.specs.Threads.{left, rowsIn}
-use Rattle.visit.specs.Wired.{kindAt, nextAt, firstAt, manyAt, levelAfter}
-use Rattle.visit.specs.Shows.{AheadIn, Shows}
-use Rattle.visit.specs.Moves.{Leads, Settles}
-use Rattle.visit.proofs.Stamps.{left-mark, mark-same}
+use Rattle.threads.specs.Threads.{left, rowsIn}
+use Rattle.moves.specs.Shows.{AheadIn, Shows}
+use Rattle.moves.specs.Moves.{kindAt, nextAt, firstAt, manyAt, levelAfter, Leads, Settles}
+use Rattle.threads.proofs.Stamps.{left-mark, mark-same}
 use Rattle.visit.proofs.Cells.{decode-at, blocked-shown, shows-mark}
 
 -- ---- what is left of a visit

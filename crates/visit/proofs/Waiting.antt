@@ -10,9 +10,9 @@ use lib.ListN.{length, getD, set, take, length-set, length-take}
 use lib.Seq.{getD-set-same, getD-set-other, take-set-lt, take-set-le, getD-take}
 use Rattle.paper.specs.Rows.{Rows}
 use Rattle.paper.specs.Machine.{Thread, at}
-use Rattle.visit.specs.Threads.{left, rowsFrom, waited}
-use Rattle.visit.proofs.Stamps.{left-all, left-mark}
-use Rattle.visit.proofs.Stores.{stored-long, stored-before, stored-place, stored-rows, same-part}
+use Rattle.threads.specs.Threads.{left, rowsFrom, waited}
+use Rattle.threads.proofs.Stamps.{left-all, left-mark}
+use Rattle.threads.proofs.Stores.{stored-long, stored-before, stored-place, stored-rows, same-part}
 
 -- ---- the pairs on level 0 that are not seen
 

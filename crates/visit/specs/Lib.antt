@@ -1,5 +1,3 @@
--- What the contracts of this crate speak of: threads in a lent list, tables that a run can trust, and how tables show a state of the machine.
-pub mod Threads
+-- What the contract of this crate speaks of: tables that a run can trust, and a visit.
 pub mod Wired
-pub mod Shows
-pub mod Moves
+pub mod Visits

@@ -2,36 +2,10 @@
 -- and a depth for each place that bounds the levels on which it is reached.
 use Prim.Native.Nat.{ℕ, _+_, _*_, _≤_, _<_, _^_}
 use mathlib.Core.Path.{_≡_}
-use mathlib.Core.Bool.{cond}
 use mathlib.Core.List.{List}
-use lib.Dec.{eqb}
-use lib.ListN.{length, getD}
-use Rattle.paper.specs.Limits.{rowCount}
-use Rattle.paper.specs.Tables.{forkPlace, openPlace, closePlace, beginPlace, beginOptionalPlace, endPlace, setPlace, stopPlace, placeNumbers}
-
--- the four numbers of a place in a table
-abbrev pub kindAt : List ℕ → ℕ → ℕ
-kindAt code x = getD code (placeNumbers * x) 0
-
-abbrev pub nextAt : List ℕ → ℕ → ℕ
-nextAt code x = getD code (placeNumbers * x + 1) 0
-
-abbrev pub firstAt : List ℕ → ℕ → ℕ
-firstAt code x = getD code (placeNumbers * x + 2) 0
-
-abbrev pub manyAt : List ℕ → ℕ → ℕ
-manyAt code x = getD code (placeNumbers * x + 3) 0
-
--- the rows that a place of this kind touches exist
-pub record Slots (kind a n : ℕ) : Type 0 where
-  pub opens : kind ≡ openPlace → a < rowCount
-  pub closes : kind ≡ closePlace → a < rowCount
-  pub begins : kind ≡ beginPlace → a + n ≤ rowCount
-  pub begins-optional : kind ≡ beginOptionalPlace → a + n ≤ rowCount
-
--- the level after a place of this kind: begin optional raises it, end leaves 0
-abbrev pub levelAfter : ℕ → ℕ → ℕ
-levelAfter kind level = cond (eqb kind endPlace) 0 (cond (eqb kind beginOptionalPlace) (level + 1) level)
+use lib.ListN.{length}
+use Rattle.moves.specs.Moves.{Slots, kindAt, nextAt, firstAt, manyAt}
+use Rattle.paper.specs.Tables.{forkPlace, beginOptionalPlace, endPlace, setPlace, stopPlace, placeNumbers}
 
 -- a table of `places` places, for a pattern, that is safe to run with `cells` entries for the pairs. Only an end can lead back.
 -- An end has no rule for the depth: it leads on only from level 0, back to where a pass began

@@ -1,14 +1,14 @@
 -- The pattern's refusals, or what the machine that was built answers.
 use lib.ListN.{replicate}
 use Rattle.places.specs.Asked.{tableRoom}
-use Rattle.matcher.proofs.Building.{machine-of, refusal-of}
+use Rattle.machine.proofs.Building.{machine-of, refusal-of}
 use Rattle.matcher.proofs.Answering.{refuses-pattern}
 use borrow.Author.Needs.{needs}
 use Rattle.matcher.proofs.call.Statement.{statement}
 use Rattle.matcher.proofs.call.Tie as tie
 use Rattle.matcher.proofs.call.Reads as reads
 use Rattle.matcher.proofs.call.Lts as lts
-use Rattle.matcher.proofs.build.Reads as build-reads
+use Rattle.machine.proofs.build.Reads as build-reads
 use Rattle.matcher.proofs.finish.Reads as finish-reads
 
 slice-aggregate-build : tie.Need-slice-aggregate-build

@@ -6,7 +6,7 @@ use Rattle.matcher.proofs.finish.Tie as tie
 use Rattle.matcher.proofs.finish.Reads as reads
 use Rattle.matcher.proofs.finish.Lts as lts
 use Rattle.matcher.proofs.fill.Reads as fill-reads
-use Rattle.matcher.proofs.find.Reads as find-reads
+use Rattle.machine.proofs.find.Reads as find-reads
 use Rattle.matcher.proofs.told.Reads as told-reads
 
 returns : tie.Need-returns

@@ -1,5 +1,5 @@
 -- `pick::with_pattern` is safe and ends: the machine that was built is ready, and the tables are as long as it needs.
-use Rattle.matcher.proofs.Wiring.{ready-scratch}
+use Rattle.machine.proofs.Wiring.{ready-scratch}
 use borrow.Author.Needs.{needs}
 use Rattle.pick.proofs.with_pattern.Statement.{statement}
 use Rattle.pick.proofs.with_pattern.Tie as tie
@@ -7,7 +7,7 @@ use Rattle.pick.proofs.with_pattern.Reads as reads
 use Rattle.pick.proofs.with_pattern.Lts as lts
 use Rattle.job.proofs.print_numbers.Reads as print-numbers-reads
 use Rattle.job.proofs.print_refused.Reads as print-refused-reads
-use Rattle.matcher.proofs.build.Reads as build-reads
+use Rattle.machine.proofs.build.Reads as build-reads
 use Rattle.pick.proofs.all_lines.Reads as all-lines-reads
 
 build-requires : tie.Need-build-requires

@@ -1,7 +1,7 @@
 -- `replacer::replace_in` meets its contract: what was measured decides between 13 and writing, and is the answer.
 use native.Mathlib.Omega.{arith}
 use borrow.Author.Needs.{needs}
-use Rattle.matcher.proofs.Wiring.{ready-runs}
+use Rattle.machine.proofs.Wiring.{ready-runs}
 use Rattle.replacer.proofs.Calling.{refuses-measured, replaces-measured}
 use Rattle.replacer.proofs.Scanning.{kept-start, kept-on, runs-on}
 use Rattle.replacer.proofs.replace_in.Statement.{statement}

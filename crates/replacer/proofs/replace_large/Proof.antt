@@ -1,7 +1,7 @@
 -- `replacer::replace_large` meets its contract: its scratch is as long as the largest machine needs.
 use mathlib.Core.Path.{refl}
 use borrow.Author.Needs.{needs}
-use Rattle.matcher.proofs.Wiring.{ready-scratch}
+use Rattle.machine.proofs.Wiring.{ready-scratch}
 use Rattle.replacer.proofs.replace_large.Statement.{statement}
 use Rattle.replacer.proofs.replace_large.Tie as tie
 

@@ -1,7 +1,7 @@
 -- `replacer::replace_small` meets its contract: its scratch is as long as a small machine needs.
 use mathlib.Core.Path.{refl}
 use borrow.Author.Needs.{needs}
-use Rattle.matcher.proofs.Wiring.{small-scratch}
+use Rattle.machine.proofs.Wiring.{small-scratch}
 use Rattle.replacer.proofs.replace_small.Statement.{statement}
 use Rattle.replacer.proofs.replace_small.Tie as tie
 

@@ -1,6 +1,6 @@
 -- The line's length says whether a byte is there.
-use mathlib.Core.Path.{_≡_, sym, ap, _∙_}
-use mathlib.Core.Bool.{Bool, cond, true, false}
+use mathlib.Core.Path.{_≡_, sym, ap}
+use mathlib.Core.Bool.{Bool, cond}
 use Prim.Native.Nat.{ℕ}
 use native.Mathlib.Omega.{arith}
 use borrow.Author.Needs.{needs}
@@ -10,7 +10,7 @@ use Rattle.run.proofs.ahead_at.Statement.{statement}
 use Rattle.run.proofs.ahead_at.Tie as tie
 use Rattle.run.proofs.ahead_at.Reads as reads
 use Rattle.run.proofs.ahead_at.Lts as lts
-use Rattle.visit.proofs.wide.Reads as wide-reads
+use Rattle.threads.proofs.wide.Reads as wide-reads
 
 wide-requires : tie.Need-wide-requires
 wide-requires c κs = search needs

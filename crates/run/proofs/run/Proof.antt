@@ -14,9 +14,9 @@ use Rattle.run.proofs.list_at.Reads as list-at-reads
 use Rattle.run.proofs.proceeds.Reads as proceeds-reads
 use Rattle.run.proofs.step.Reads as step-reads
 use Rattle.run.proofs.wipe.Reads as wipe-reads
-use Rattle.visit.proofs.load.Reads as load-reads
-use Rattle.visit.proofs.store.Reads as store-reads
-use Rattle.visit.proofs.wide.Reads as wide-reads
+use Rattle.threads.proofs.load.Reads as load-reads
+use Rattle.threads.proofs.store.Reads as store-reads
+use Rattle.threads.proofs.wide.Reads as wide-reads
 
 abbrev Inv-loop : tie.InvT-loop
 Inv-loop code pattern line seen₀ taken₀ lists₀ pending₀ places start at₀ number₀ steps₀ matched₀ second₀ goes₀

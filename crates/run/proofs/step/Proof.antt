@@ -13,9 +13,9 @@ use Rattle.run.proofs.step.Lts as lts
 use Rattle.run.proofs.ahead_at.Reads as ahead-at-reads
 use Rattle.run.proofs.list_at.Reads as list-at-reads
 use Rattle.run.proofs.more.Reads as more-reads
-use Rattle.visit.proofs.load.Reads as load-reads
+use Rattle.threads.proofs.load.Reads as load-reads
 use Rattle.visit.proofs.visit.Reads as visit-reads
-use Rattle.visit.proofs.wide.Reads as wide-reads
+use Rattle.threads.proofs.wide.Reads as wide-reads
 
 abbrev Inv-loop : tie.InvT-loop
 Inv-loop code pattern line seen₀ taken₀ lists₀ pending₀ second number places at before long from to end ahead i₀ count₀ steps₀ done₀ goes₀

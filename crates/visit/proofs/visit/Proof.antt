@@ -1,9 +1,7 @@
 -- Each turn keeps `Turn`, by one law a way round; the measure counts the entries of `seen` that lack this position's stamp and the branches that wait.
 use native.Mathlib.Omega.{arith}
-use Prim.Native.Nat.{ℕ, _*_, _+_, _-_}
-use mathlib.Core.Path.{_≡_}
+use Prim.Native.Nat.{_+_}
 use mathlib.Core.Bool.{false, not}
-use lib.ListN.{length}
 use borrow.Author.Needs.{needs}
 use Rattle.visit.proofs.Loop.{Turn, turns, turn-first, turn-cell, turn-floor, turn-numbers, turn-last, turn-end, less-end, turn-branch, turn-resume, less-resume}
 use Rattle.visit.proofs.Loop.{turn-seen, less-seen, turn-countable, less-new, lead-slots, turn-lead, settle-asked, turn-settle, fork-asked, turn-fork}
@@ -11,13 +9,13 @@ use Rattle.visit.proofs.visit.Statement.{statement}
 use Rattle.visit.proofs.visit.Tie as tie
 use Rattle.visit.proofs.visit.Reads as reads
 use Rattle.visit.proofs.visit.Lts as lts
-use Rattle.visit.proofs.lead.Reads as lead-reads
-use Rattle.visit.proofs.load.Reads as load-reads
-use Rattle.visit.proofs.mark.Reads as mark-reads
-use Rattle.visit.proofs.numbers_of.Reads as numbers-of-reads
-use Rattle.visit.proofs.settle.Reads as settle-reads
-use Rattle.visit.proofs.wait.Reads as wait-reads
-use Rattle.visit.proofs.wide.Reads as wide-reads
+use Rattle.moves.proofs.lead.Reads as lead-reads
+use Rattle.threads.proofs.load.Reads as load-reads
+use Rattle.threads.proofs.mark.Reads as mark-reads
+use Rattle.moves.proofs.numbers_of.Reads as numbers-of-reads
+use Rattle.moves.proofs.settle.Reads as settle-reads
+use Rattle.threads.proofs.wait.Reads as wait-reads
+use Rattle.threads.proofs.wide.Reads as wide-reads
 
 abbrev Inv-loop : tie.InvT-loop
 Inv-loop code pattern seen₀ taken₀ list₀ pending₀ places ahead at start carried before place₀ floor₀ rows₀ count₀ steps₀ waiting₀ alive₀ goes₀ done₀

@@ -1,14 +1,14 @@
 -- The refusals of building, or its table with the head before it.
 use native.Mathlib.Omega.{arith}
 use lib.ListN.{length-set}
-use Rattle.matcher.proofs.Wiring.{ready-places, ready-levels}
+use Rattle.machine.proofs.Wiring.{ready-places, ready-levels}
 use Rattle.exports.proofs.Keeping.{refused-in, ready-below, built-in}
 use borrow.Author.Needs.{needs}
 use Rattle.exports.proofs.built.build_in.Statement.{statement}
 use Rattle.exports.proofs.built.build_in.Tie as tie
 use Rattle.exports.proofs.built.build_in.Reads as reads
 use Rattle.exports.proofs.built.build_in.Lts as lts
-use Rattle.matcher.proofs.build.Reads as build-reads
+use Rattle.machine.proofs.build.Reads as build-reads
 
 sub-build : tie.Need-sub-build
 sub-build c = search needs

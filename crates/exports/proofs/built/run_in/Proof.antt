@@ -9,7 +9,7 @@ use Rattle.exports.proofs.built.run_in.Tie as tie
 use Rattle.exports.proofs.built.run_in.Reads as reads
 use Rattle.exports.proofs.built.run_in.Lts as lts
 use Rattle.matcher.proofs.fill.Reads as fill-reads
-use Rattle.matcher.proofs.find_in.Reads as find-in-reads
+use Rattle.machine.proofs.find_in.Reads as find-in-reads
 use Rattle.matcher.proofs.told.Reads as told-reads
 
 returns : tie.Need-returns

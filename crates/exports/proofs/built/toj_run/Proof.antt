@@ -11,7 +11,7 @@ use Rattle.exports.proofs.built.toj_run.Reads as reads
 use Rattle.exports.proofs.built.toj_run.Lts as lts
 use Rattle.exports.proofs.built.least.Reads as least-reads
 use Rattle.exports.proofs.built.run_in.Reads as run-in-reads
-use Rattle.exports.proofs.tell.tell_found.Reads as tell-found-reads
+use Rattle.telling.proofs.tell_found.Reads as tell-found-reads
 
 returns : tie.Need-returns
 returns c = record { short = λ h. ((refl, refl), refl); small = λ h. ((refl, refl), refl); narrow = λ h. ((refl, refl), refl); told = λ h k l. absurd (omega arith) }

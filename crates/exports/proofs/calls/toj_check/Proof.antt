@@ -1,14 +1,14 @@
 -- Too short, or what checking promised, told.
 use mathlib.Core.Path.{refl}
 use native.Mathlib.Omega.{arith}
-use Rattle.exports.proofs.Telling.{numbered-as}
-use Rattle.exports.proofs.Numbered.{check-numbered}
+use Rattle.telling.proofs.Telling.{numbered-as}
+use Rattle.telling.proofs.Numbered.{check-numbered}
 use borrow.Author.Needs.{needs}
 use Rattle.exports.proofs.calls.toj_check.Statement.{statement}
 use Rattle.exports.proofs.calls.toj_check.Tie as tie
 use Rattle.exports.proofs.calls.toj_check.Reads as reads
 use Rattle.exports.proofs.calls.toj_check.Lts as lts
-use Rattle.exports.proofs.tell.tell_checked.Reads as tell-checked-reads
+use Rattle.telling.proofs.tell_checked.Reads as tell-checked-reads
 use Rattle.pattern.proofs.check.Reads as check-reads
 
 returns : tie.Need-returns

@@ -1,14 +1,14 @@
 -- Too short, or what the call under it promised, told.
 use mathlib.Core.Path.{refl}
 use native.Mathlib.Omega.{arith}
-use Rattle.exports.proofs.Telling.{numbered-as}
-use Rattle.exports.proofs.Numbered.{match-numbered}
+use Rattle.telling.proofs.Telling.{numbered-as}
+use Rattle.telling.proofs.Numbered.{match-numbered}
 use borrow.Author.Needs.{needs}
 use Rattle.exports.proofs.calls.toj_match.Statement.{statement}
 use Rattle.exports.proofs.calls.toj_match.Tie as tie
 use Rattle.exports.proofs.calls.toj_match.Reads as reads
 use Rattle.exports.proofs.calls.toj_match.Lts as lts
-use Rattle.exports.proofs.tell.tell_found.Reads as tell-found-reads
+use Rattle.telling.proofs.tell_found.Reads as tell-found-reads
 use Rattle.matcher.proofs.whole_match.Reads as whole-match-reads
 
 returns : tie.Need-returns

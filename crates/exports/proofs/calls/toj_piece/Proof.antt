@@ -1,15 +1,15 @@
 -- Too short, or the piece, told.
 use mathlib.Core.Path.{refl, sym, ap}
 use native.Mathlib.Omega.{arith}
-use Rattle.exports.specs.Told.{spanNumbers}
-use Rattle.exports.proofs.Telling.{told-as, numbered-as}
-use Rattle.exports.proofs.Numbered.{piece-numbered}
+use Rattle.telling.specs.Told.{spanNumbers}
+use Rattle.telling.proofs.Telling.{told-as, numbered-as}
+use Rattle.telling.proofs.Numbered.{piece-numbered}
 use borrow.Author.Needs.{needs}
 use Rattle.exports.proofs.calls.toj_piece.Statement.{statement}
 use Rattle.exports.proofs.calls.toj_piece.Tie as tie
 use Rattle.exports.proofs.calls.toj_piece.Reads as reads
 use Rattle.exports.proofs.calls.toj_piece.Lts as lts
-use Rattle.exports.proofs.tell.tell_piece.Reads as tell-piece-reads
+use Rattle.telling.proofs.tell_piece.Reads as tell-piece-reads
 use Rattle.template.proofs.piece.Reads as piece-reads
 
 returns : tie.Need-returns

@@ -1,14 +1,14 @@
 -- Too short, or what the call under it promised, told.
 use mathlib.Core.Path.{refl}
 use native.Mathlib.Omega.{arith}
-use Rattle.exports.proofs.Telling.{numbered-as}
-use Rattle.exports.proofs.Numbered.{replace-numbered}
+use Rattle.telling.proofs.Telling.{numbered-as}
+use Rattle.telling.proofs.Numbered.{replace-numbered}
 use borrow.Author.Needs.{needs}
 use Rattle.exports.proofs.calls.toj_replace.Statement.{statement}
 use Rattle.exports.proofs.calls.toj_replace.Tie as tie
 use Rattle.exports.proofs.calls.toj_replace.Reads as reads
 use Rattle.exports.proofs.calls.toj_replace.Lts as lts
-use Rattle.exports.proofs.tell.tell_replaced.Reads as tell-replaced-reads
+use Rattle.telling.proofs.tell_replaced.Reads as tell-replaced-reads
 use Rattle.replacer.proofs.replace_all.Reads as replace-all-reads
 
 returns : tie.Need-returns

@@ -1,0 +1,3 @@
+-- What the proofs of telling, and of those who tell, cite.
+pub mod Numbered
+pub mod Telling

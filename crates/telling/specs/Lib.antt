@@ -1,0 +1,2 @@
+-- What the contracts of telling cite.
+pub mod Told
