@@ -175,7 +175,7 @@ module _ (searches : Bool) (pattern line lent : List ℕ) where
           (written ∙ ap (λ (x : Rows). x ++ drop tableNumbers lent) (g .rows-are) ∙ sym (ap (λ (c : Checked Found). tableAfter c lent) answered))
           (λ f h. bounded f (sym found ∙ h) (told-steps r (isMatch (foundOf searches e line .rows)) (foundOf searches e line .steps) same))
         where
-          bounded : (f : Pattern) → accepted e ≡ accepted f → stepsTold r ≡ foundOf searches e line .steps → stepsTold r ≤ mostOf searches f * (length line + 1)
+          bounded : (f : Pattern) → accepted e ≡ accepted f → stepsTold r ≡ foundOf searches e line .steps → stepsTold r ≤ boundOf searches f (length line)
           bounded f s q =
               let one : e ≡ f = cc in
-              subst (λ (t : Pattern). stepsTold r ≤ mostOf searches t * (length line + 1)) one (omega (arith, found-bound searches e line))
+              subst (λ (t : Pattern). stepsTold r ≤ boundOf searches t (length line)) one (omega (arith, found-bound searches e line))

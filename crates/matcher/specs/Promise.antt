@@ -1,5 +1,5 @@
 -- The promises of the two public calls: the answer, the lent table afterwards, and the bound on the steps told.
-use Prim.Native.Nat.{_≤_}
+use Prim.Native.Nat.{ℕ, _≤_}
 use mathlib.Core.Path.{_≡_}
 use mathlib.Core.Bool.{Bool, true, false}
 use mathlib.Core.List.{List}

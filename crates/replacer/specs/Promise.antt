@@ -1,5 +1,5 @@
 -- The promise of replace-all: the answer, the lent buffer afterwards, and the bound on the sum of the steps.
-use Prim.Native.Nat.{_≤_}
+use Prim.Native.Nat.{ℕ, _≤_}
 use mathlib.Core.Path.{_≡_}
 use mathlib.Core.List.{List}
 use lib.ListN.{length}
