@@ -12,4 +12,5 @@ pub mod Match
 pub mod Bounds
 pub mod Template
 pub mod Replace
+pub mod ScanTurn
 pub mod PieceCalls

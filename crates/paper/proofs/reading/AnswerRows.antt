@@ -13,13 +13,13 @@ use borrow.Author.Tests.{eqb-true}
 use Rattle.paper.specs.Limits.{tableNumbers, absent}
 use Rattle.paper.specs.Pattern.{Mode, greedy, lazy, noEnd, Pattern, groups}
 use Rattle.paper.specs.Pattern.Pattern.{group, repeat}
-use Rattle.paper.specs.Rows.{Rows, noRows, rowStart, rowEnd, setRow}
+use Rattle.paper.specs.Rows.{Rows, noRows, rowStart, rowEnd, setRow, spans, RowsFit}
 use Rattle.paper.specs.Reading.{Outcome, inTurn, read}
 use Rattle.paper.specs.Match.{firstEndingAt, withRow0, wholeMatch, anyByte, wrap, search}
 use Rattle.paper.proofs.reading.Every.{Property, Every, every-bind, every-weaken, every-both}
 use Rattle.paper.proofs.reading.Ends.{Within, ends}
 use Rattle.paper.proofs.reading.RowLaws
-use Rattle.paper.proofs.reading.RowsKept.{spans, RowsFit, Fitting, Outside, Untouched, noRows-fit, absent-everywhere, setRow-fits, rows-fit, rows-untouched, group-set}
+use Rattle.paper.proofs.reading.RowsKept.{Fitting, Outside, Untouched, noRows-fit, absent-everywhere, setRow-fits, rows-fit, rows-untouched, group-set}
 
 -- what holds of the rows of an answer, if there is one
 abbrev pub Answered : (Rows → Type 0) → Option Rows → Type 0

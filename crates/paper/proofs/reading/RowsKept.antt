@@ -10,22 +10,12 @@ use lib.ListN.{length, getD, replicate, length-replicate}
 use Rattle.paper.specs.Limits.{lineBytes, tableNumbers, absent}
 use Rattle.paper.specs.Pattern.{Pattern, groups}
 use Rattle.paper.specs.Pattern.Pattern.{group}
-use Rattle.paper.specs.Rows.{Rows, noRows, rowStart, rowEnd, setRow}
+use Rattle.paper.specs.Rows.{Rows, noRows, rowStart, rowEnd, setRow, RowFits, away, spans, RowsFit}
 use Rattle.paper.specs.Reading.{spanning, read}
 use Rattle.paper.proofs.reading.Every.{Every, every-bind, every-weaken, every-both}
 use Rattle.paper.proofs.reading.Invariant.{Relation, Kept, Sound, read-sound}
 use Rattle.paper.proofs.reading.Ends.{Within, within-kept, ends}
 use Rattle.paper.proofs.reading.RowLaws
-
--- a row of a line with n bytes: absent twice, or a span inside the line
-pub data RowFits (n start end : ℕ) : Type 0 where
-  away : start ≡ absent → end ≡ absent → RowFits n start end
-  spans : start ≤ end → end ≤ n → RowFits n start end
-
--- the table's numbers, and every row of them fits
-pub record RowsFit (n : ℕ) (rows : Rows) : Type 0 where
-  pub numbers : length rows ≡ tableNumbers
-  pub fits : (k : ℕ) → RowFits n (rowStart k rows) (rowEnd k rows)
 
 -- the table without a match reads as absent everywhere
 pub absent-everywhere : (n i : ℕ) → getD (replicate n absent) i absent ≡ absent

@@ -18,10 +18,11 @@ use Rattle.paper.specs.Rows.{Rows, rowStart, rowEnd}
 use Rattle.paper.specs.Match.{search, searchSteps}
 use Rattle.paper.specs.Template.{Piece, literal, reference, piecesFrom, templateOf}
 use Rattle.paper.specs.Replace.{moved, rowBytes, putIn, Scanned, precede, replaceAll}
+use Rattle.paper.specs.ScanTurn.{Turn, turnOf, turnBytes, TurnFits}
 use Rattle.paper.proofs.layout.Accepted.{holds-accepted}
 use Rattle.paper.proofs.layout.Turns.{pieces-induction}
 use Rattle.paper.proofs.replacing.ScanTurns.{scanOr}
-use Rattle.paper.proofs.replacing.ScanWays.{Turn, turnOf, turnBytes, turnCount, ended, search-turn, TurnFits, turn-fits, scan-whole}
+use Rattle.paper.proofs.replacing.ScanWays.{turnCount, ended, search-turn, turn-fits, scan-whole}
 
 -- a part is as long as from its start to its end, where that lies inside
 pub part-length : (l : List ℕ) (start end : ℕ) → end ≤ length l → length (part l start end) ≡ end - start

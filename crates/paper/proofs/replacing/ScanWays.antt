@@ -1,6 +1,6 @@
 -- The scan of replace-all one search at a time: what a turn copies and puts in, where it goes on, and that the whole is the turns one after another.
 -- With as many searches as bytes are left, and one, the scan from a position is one turn put before the scan from where that turn goes on.
-use Prim.Native.Nat.{ℕ, suc, _+_, _-_, _*_, _≤_, _<_}
+use Prim.Native.Nat.{ℕ, suc, _+_, _-_, _*_, _≤_}
 use mathlib.Core.Path.{_≡_, refl, sym, ap, ap₂, subst, _∙_}
 use mathlib.Core.Bool.{Bool, true, false, cond, not}
 use mathlib.Core.List.{List, [], _++_, append-nil, append-assoc}
@@ -14,11 +14,12 @@ use borrow.Author.Tests.{ltb-true}
 use Rattle.paper.specs.Limits.{lineBytes, absent}
 use Rattle.paper.specs.Pattern.{Pattern, groups}
 use Rattle.paper.specs.Check.{part}
-use Rattle.paper.specs.Rows.{Rows, noRows, rowStart, rowEnd}
+use Rattle.paper.specs.Rows.{Rows, rowStart, rowEnd, RowFits, away, spans, RowsFit}
 use Rattle.paper.specs.Match.{search, searchSteps}
 use Rattle.paper.specs.Template.{Piece}
 use Rattle.paper.specs.Replace.{movedBy, moved, putIn, Scanned, precede, suppressed, Scan, scanOn, afterSearch, replaceAll}
-use Rattle.paper.proofs.reading.RowsKept.{RowFits, away, spans, RowsFit, noRows-fit}
+use Rattle.paper.specs.ScanTurn.{Turn, turnBy, turnOf, turnAt, turnBytes, TurnFits}
+use Rattle.paper.proofs.reading.RowsKept.{noRows-fit}
 use Rattle.paper.proofs.reading.AnswerRows.{Answered, AnswerRows, search-rows}
 use Rattle.paper.proofs.replacing.ScanTurns.{Ahead, match-ahead, spans-moved, afterSearch-agree, scanOr, enough-searches-or, enough-searches}
 
@@ -26,39 +27,7 @@ use Rattle.paper.proofs.replacing.ScanTurns.{Ahead, match-ahead, spans-
 abbrev pub ended : Scanned
 ended = record { output = []; replaced = 0; steps = 0 }
 
--- a turn of the scan, once its search is made: up to where the line is copied first, whether the template is put in and for which rows,
--- up to where the line is copied then, whether the scan goes on, and from where, after which non-empty match's end
-pub record Turn : Type 0 where
-  pub start : ℕ
-  pub put : Bool
-  pub rows : Rows
-  pub upto : ℕ
-  pub goes : Bool
-  pub next : ℕ
-  pub last : Option ℕ
-
--- the turn of a match: whether it is non-empty, whether a byte stands at its start, whether it is suppressed
-abbrev pub turnBy : Bool → Bool → Bool → Rows → ℕ → ℕ → Option ℕ → Turn
-turnBy true byte kept rows start end last =
-    record { start = start; put = not kept; rows = rows; upto = start; goes = true; next = end; last = some end }
-turnBy false true kept rows start end last =
-    record { start = start; put = not kept; rows = rows; upto = start + 1; goes = true; next = start + 1; last = last }
-turnBy false false kept rows start end last =
-    record { start = start; put = not kept; rows = rows; upto = start; goes = false; next = start; last = last }
-
--- the turn of a search in a line with n bytes, by the rows that it finds in the whole line
-abbrev pub turnOf : ℕ → Option ℕ → Option Rows → Turn
-turnOf n last none = record { start = n; put = false; rows = noRows; upto = n; goes = false; next = n; last = last }
-turnOf n last (some rows) =
-    let start = rowStart 0 rows in
-    let end = rowEnd 0 rows in
-    turnBy (ltb start end) (ltb start n) (suppressed start end last) rows start end last
-
--- what a turn from p writes, and how often it replaces
-abbrev pub turnBytes : List ℕ → List ℕ → List Piece → ℕ → Turn → List ℕ
-turnBytes template line pieces p t =
-    part line p (t .start) ++ (cond (t .put) (putIn template line (t .rows) pieces) [] ++ part line (t .start) (t .upto))
-
+-- how often a turn replaces
 abbrev pub turnCount : Turn → ℕ
 turnCount t = cond (t .put) 1 0
 
@@ -140,14 +109,6 @@ module _ (scan : Scan) (template line : List ℕ) (pieces : List Piece) (p : ℕ
 
 -- ---- how a turn lies in the line
 
--- the first copy goes forward from p, the second from its end, and both inside the line; where the scan goes on it is past p, and the rows fit the line
-pub record TurnFits (n p : ℕ) (t : Turn) : Type 0 where
-  pub from : p ≤ t .start
-  pub forward : t .start ≤ t .upto
-  pub within : t .upto ≤ n
-  pub further : t .goes ≡ true → (p < t .next) × (t .next ≤ n)
-  pub rows-fit : RowsFit n (t .rows)
-
 turnBy-fits : (n p start end : ℕ) (rows : Rows) (last : Option ℕ) → Ahead n p start end → RowsFit n rows
     → (nonEmpty byte kept : Bool) → ltb start end ≡ nonEmpty → ltb start n ≡ byte → TurnFits n p (turnBy nonEmpty byte kept rows start end last)
 turnBy-fits n p start end rows last a fit true byte kept e f =
@@ -185,10 +146,6 @@ rows-moved-fit n p rows small inside fit = record { numbers = length-map rows (m
     row k (spans s e) =
         let here = spans-moved n p k rows small inside (s, e) in
         spans (omega arith) (omega arith)
-
--- the turn that the scan makes at a position
-abbrev pub turnAt : Pattern → List ℕ → ℕ → Option ℕ → Turn
-turnAt e line p last = turnOf (length line) last (Option·map (moved p) (search e (drop p line)))
 
 -- the turn at a position lies so
 pub turn-fits : (e : Pattern) (line : List ℕ) (p : ℕ) (last : Option ℕ) → length line ≤ lineBytes → p ≤ length line
