@@ -1,4 +1,4 @@
-//! Links the proved archive, and the plain C machine into the benchmark and the tests.
+//! Links the proved archive, and with the feature `bench` the plain C machine into the benchmark and the tests.
 
 use std::env;
 use std::path::{Path, PathBuf};
@@ -10,14 +10,18 @@ const ELSEWHERE: &str = "TOJALINDA_ARCHIVE";
 fn main() {
     let here = PathBuf::from(env::var("CARGO_MANIFEST_DIR").unwrap());
     link_archive(&here);
-    link_plain(&here);
+    if env::var_os("CARGO_FEATURE_BENCH").is_some() {
+        link_plain(&here);
+    }
 }
 
 /// Links libexports.a into the library.
 fn link_archive(here: &Path) {
     println!("cargo:rerun-if-env-changed={ELSEWHERE}");
-    let folder = match env::var_os(ELSEWHERE) {
-        Some(folder) => PathBuf::from(folder),
+    let elsewhere = env::var_os(ELSEWHERE).filter(|folder| !folder.is_empty()).map(PathBuf::from);
+    let folder = match elsewhere {
+        Some(folder) if folder.is_relative() => where_called().join(folder),
+        Some(folder) => folder,
         None => here.join("../target/staticlib"),
     };
     let archive = folder.join("libexports.a");
@@ -31,6 +35,12 @@ fn link_archive(here: &Path) {
     }
     println!("cargo:rustc-link-search=native={}", folder.display());
     println!("cargo:rustc-link-lib=static=exports");
+}
+
+/// The directory that cargo was called from, which is not the one that it runs this in.
+fn where_called() -> PathBuf {
+    println!("cargo:rerun-if-env-changed=PWD");
+    env::var_os("PWD").map(PathBuf::from).unwrap_or_default()
 }
 
 /// Compiles the baseline and links it where it is compared with the library, and nowhere else.

@@ -4,6 +4,8 @@
 //   node scripts/compare.mjs --answered FILE         holds the answers that stand in a file of cases to RegExp's
 //   node scripts/compare.mjs --write REPLAY CASES SEED   prints the cases with replay's answers, for storing
 //
+// Status: 0 nothing differs; 1 something does; 2 wrong usage, or something cannot be read, run or written, which a line on standard error tells.
+//
 // A pattern is made as a tree, and written both as records and as a regular expression over characters 0 to 255.
 // A whole match is ^(?:...)$, a search is exec with indices. Replace-all is compared where its rule on an empty match
 // behind a match and ECMA-262's agree: where no suppressed match occurs.
@@ -11,11 +13,20 @@
 // The engine goes back over its choices, and on some patterns it would take hours for a line of twelve bytes. Each of its
 // answers has a second; a case on which it takes longer is counted as unfinished and compared with nothing.
 import { spawnSync } from 'node:child_process';
-import { readFileSync } from 'node:fs';
+import { readFileSync, writeFileSync } from 'node:fs';
 import vm from 'node:vm';
 
 const PATIENCE = 1000; // milliseconds that the engine has for a case
 const BATCH = 10000; // cases that replay is given at a time
+
+// Prints a line, and throws where it cannot.
+function print(line) {
+    try {
+        writeFileSync(1, line + '\n');
+    } catch (error) {
+        throw new Error('standard output cannot be written: ' + error.code);
+    }
+}
 
 // A small generator of random numbers, the same for the same seed everywhere.
 function randomFrom(seed) {
@@ -226,7 +237,7 @@ const counts = { cases: 0, compared: 0, matched: 0, absent: 0, emptyInside: 0, r
 
 function report(line, wanted) {
     counts.differences += 1;
-    if (counts.differences <= 10) console.log('differs: ' + line + '\n wanted: ' + wanted);
+    if (counts.differences <= 10) print('differs: ' + line + '\n wanted: ' + wanted);
 }
 
 // Holds one answered case to the engine. Steps are the machine's own and are not compared.
@@ -283,9 +294,9 @@ function* makeCases(seed) {
 
 function runReplay(program, queries) {
     const run = spawnSync(program, { input: queries.join('\n') + '\n', maxBuffer: 1 << 30 });
-    if (run.error) throw run.error;
+    if (run.error) throw new Error(program + ' cannot be run: ' + run.error.code);
     const answered = run.stdout.toString().trimEnd().split('\n');
-    if (answered.length !== queries.length) throw new Error('replay printed ' + answered.length + ' lines for ' + queries.length);
+    if (answered.length !== queries.length) throw new Error(program + ' printed ' + answered.length + ' lines for ' + queries.length);
     return answered;
 }
 
@@ -300,20 +311,50 @@ function inBatches(program, total, seed, each) {
     }
 }
 
-const args = process.argv.slice(2);
-if (args[0] === '--answered') {
-    for (const line of readFileSync(args[1], 'utf8').split('\n')) if (/^(match|search|replace) /.test(line)) compare(line);
-} else if (args[0] === '--write') {
-    inBatches(args[1], Number(args[2]), Number(args[3]), (line) => console.log(line));
-    process.exit(0);
-} else if (args.length >= 1) {
-    const seed = Number(args[2] ?? 1);
-    const started = Date.now();
-    inBatches(args[0], Number(args[1] ?? 100000), seed, (line, query) => line.startsWith(query + ' -> ') ? compare(line) : report(line, query));
-    console.log('seed ' + seed + ', engine ' + process.version + ', ' + Math.round((Date.now() - started) / 1000) + ' s');
-} else {
-    console.log('usage: node scripts/compare.mjs REPLAY [CASES [SEED]]');
-    process.exit(2);
+// Holds every case of a file to the engine.
+function compareFile(file) {
+    let lines;
+    try {
+        lines = readFileSync(file, 'utf8').split('\n');
+    } catch (error) {
+        throw new Error(file + ' cannot be read: ' + error.code);
+    }
+    lines.forEach((line, i) => {
+        try {
+            if (/^(match|search|replace) /.test(line)) compare(line);
+        } catch (error) {
+            throw new Error(file + ', line ' + (i + 1) + ': ' + error.message);
+        }
+    });
+    if (counts.cases === 0) throw new Error(file + ' has no case');
 }
-console.log(Object.entries(counts).map(([k, n]) => k + ' ' + n).join(', '));
-process.exit(counts.differences === 0 ? 0 : 1);
+
+function numberFrom(word) {
+    if (!/^[0-9]+$/.test(word)) throw new Error(word + ' is no number');
+    return Number(word);
+}
+
+function main(words) {
+    if (words[0] === '--answered' && words.length === 2) {
+        compareFile(words[1]);
+    } else if (words[0] === '--write' && words.length === 4) {
+        inBatches(words[1], numberFrom(words[2]), numberFrom(words[3]), (line) => print(line));
+        return 0;
+    } else if (words.length >= 1 && words.length <= 3 && !words[0].startsWith('--')) {
+        const [program, total = '100000', seed = '1'] = words;
+        const started = Date.now();
+        inBatches(program, numberFrom(total), numberFrom(seed), (line, query) => line.startsWith(query + ' -> ') ? compare(line) : report(line, query));
+        print('seed ' + seed + ', engine ' + process.version + ', ' + Math.round((Date.now() - started) / 1000) + ' s');
+    } else {
+        throw new Error('usage: node scripts/compare.mjs REPLAY [CASES [SEED]]');
+    }
+    print(Object.entries(counts).map(([k, n]) => k + ' ' + n).join(', '));
+    return counts.differences === 0 ? 0 : 1;
+}
+
+try {
+    process.exitCode = main(process.argv.slice(2));
+} catch (error) {
+    console.error('compare.mjs: ' + error.message.split('\n')[0]);
+    process.exitCode = 2;
+}

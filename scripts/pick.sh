@@ -1,7 +1,8 @@
 #!/bin/sh
-# Runs a job: scripts/pick.sh JOB. The program is proved and built first, if it is not there yet.
-set -e
-job=$(cd "$(dirname "$1")" && pwd)/$(basename "$1")
-cd "$(dirname "$0")/.."
-[ -x target/bin/pick ] || rt check pick > /dev/null
-target/bin/pick < "$job"
+# scripts/pick.sh JOB runs a job. program.sh says what its status means.
+. "$(dirname -- "$0")/program.sh"
+[ $# -eq 1 ] || fail 2 "usage: $name JOB"
+[ -e "$1" ] || fail 2 "$1: no such file"
+[ ! -d "$1" ] || fail 2 "$1 is a directory"
+[ -r "$1" ] || fail 2 "$1 cannot be read"
+run pick <"$1"

@@ -49,11 +49,10 @@ pub enum Piece {
     Line(Range<usize>),
 }
 
-/// A status and its numbers as a result. `out` is never too short here.
+/// A status and its numbers as a result. No memory lent here is too short, so that any other status is a refusal.
 pub(crate) fn answer<const N: usize>(status: u32, out: [u64; N]) -> Result<[u64; N], Error> {
     match status {
         raw::ANSWERED => Ok(out),
-        raw::SHORT => unreachable!("the lent memory has the length that the archive asks for"),
         number => Err(Error { number, place: out[0] as usize }),
     }
 }
@@ -176,7 +175,7 @@ pub fn part<'a>(template: &'a [u8], line: &'a [u8], table: &[u16], number: usize
 
 /// A row of a span table, or nothing where it is absent or the table does not have it.
 pub fn row(table: &[u16], number: usize) -> Option<Range<usize>> {
-    match table.get(2 * number..)? {
+    match table.get(number.checked_mul(2)?..)? {
         [ABSENT, ABSENT, ..] => None,
         [start, end, ..] => Some(usize::from(*start)..usize::from(*end)),
         _ => None,

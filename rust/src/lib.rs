@@ -19,9 +19,11 @@
 //! # Ok::<(), tojalinda::Error>(())
 //! ```
 //!
-//! The time is at most in proportion to places × (depth + 1) × (length + 1), whatever the pattern and the line, and
-//! [`Match::steps`] tells the exact count. Nothing here panics on any input, and each call needs less than 1 MiB of
-//! stack. What cannot be answered is refused by an [`Error`] with a number and a place.
+//! The time of a match is at most in proportion to places × (depth + 1) × (length + 1), whatever the pattern and the
+//! line, that of a search to (places + 10) × (depth + 1) × (length + 1) with a depth of at least 1, and
+//! [`Match::steps`] tells the exact count. Replace-all searches again behind every match:
+//! [`Pattern::replace_all`] says what its searches come to. Nothing here panics on any input, and each call needs less
+//! than 1 MiB of stack. What cannot be answered is refused by an [`Error`] with a number and a place.
 //!
 //! The answers come from an archive of proved code; this crate adds types and owns memory. [`calls`] has the
 //! archive's calls as they are, on memory that the caller lends.

@@ -9,7 +9,11 @@ use std::ops::Range;
 
 thread_local! {
     /// What machines are run in on this thread. It may hold anything between two runs.
-    static SCRATCH: RefCell<Box<[u16]>> = RefCell::new(vec![0; raw::scratch_numbers()].into());
+    static SCRATCH: RefCell<Box<[u16]>> = RefCell::new(scratch());
+}
+
+fn scratch() -> Box<[u16]> {
+    vec![0; raw::scratch_numbers()].into()
 }
 
 /// Which part of a line has to match.
@@ -136,11 +140,18 @@ impl Pattern {
             Mode::Search => &self.search,
         };
         let mut out = [0; 2];
-        let status = SCRATCH.with(|scratch| machine.run(line, &mut scratch.borrow_mut(), table, &mut out));
+        let mut run = |scratch: &mut [u16]| machine.run(line, scratch, table, &mut out);
+        let status = SCRATCH.try_with(|scratch| run(&mut scratch.borrow_mut()));
+        // A thread that is ending may have given up its scratch.
+        let status = status.unwrap_or_else(|_| run(&mut scratch()));
         answer(status, out).map(outcome)
     }
 
     /// Replaces every match in the line by the template, a run of template records.
+    ///
+    /// It searches what is left of the line behind every match, so that its time may grow with the square of the
+    /// line's length: the steps of all searches are at most (places + 10) × (depth + 1) × (length + 1) × (length + 2) / 2,
+    /// where the depth is at least 1.
     ///
     /// ```
     /// use tojalinda::{Part, Pattern, Tree};
@@ -154,19 +165,22 @@ impl Pattern {
     /// # Ok::<(), tojalinda::Error>(())
     /// ```
     pub fn replace_all(&self, template: &[u8], line: &[u8]) -> Result<Replaced, Error> {
-        const TOO_LONG: u32 = 13;
-        let mut bytes = vec![0; 2 * line.len() + template.len()];
-        loop {
-            match calls::replace(self.records(), template, line, &mut bytes) {
-                Ok(written) => {
-                    bytes.truncate(written.length);
-                    return Ok(Replaced { bytes, replacements: written.replacements, steps: written.steps });
-                }
-                Err(Error { number: TOO_LONG, .. }) => bytes = vec![0; 4 * bytes.len() + 1],
-                Err(error) => return Err(error),
-            }
-        }
+        let mut bytes = vec![0; output_bytes(template, line)];
+        let written = calls::replace(self.records(), template, line, &mut bytes)?;
+        bytes.truncate(written.length);
+        bytes.shrink_to_fit();
+        Ok(Replaced { bytes, replacements: written.replacements, steps: written.steps })
     }
+}
+
+/// A length that no output exceeds. There is at most one match more than the line has bytes, and each puts in at most
+/// the template's own bytes; a reference, which takes six of those, puts in no more than the line in all.
+fn output_bytes(template: &[u8], line: &[u8]) -> usize {
+    const REFERENCE_BYTES: usize = 6;
+    // What is longer is refused.
+    let template = template.len().min(calls::template_bytes());
+    let line = line.len().min(calls::line_bytes());
+    (line + 1) * (1 + template + template / REFERENCE_BYTES)
 }
 
 /// A pattern's numbers, and its machine for whole matches or for searches.

@@ -229,8 +229,8 @@ impl Machine {
     pub fn build(pattern: &[u8], search: bool, out: &mut [u64]) -> (u32, Option<Machine>) {
         let mut numbers = vec![0; machine_numbers()];
         let status = build(pattern, search, &mut numbers, out);
-        let machine = Machine { pattern: pattern.into(), numbers: numbers.into() };
-        (status, (status == ANSWERED).then_some(machine))
+        let machine = || Machine { pattern: pattern.into(), numbers: numbers.into() };
+        (status, (status == ANSWERED).then(machine))
     }
 
     /// The records that it was built from.

@@ -8,7 +8,7 @@ use lib.ListN.{length, getD, drop}
 use Rattle.paper.specs.Refusal.{Checked, refused, accepted}
 use Rattle.paper.specs.Pattern.{groups}
 use Rattle.paper.specs.Check.{patternOf}
-use Rattle.places.specs.Asked.{mostPlaces, tableRoom}
+use Rattle.laying.specs.Room.{mostPlaces, tableRoom}
 use Rattle.machine.specs.Machine.{Ready, pendingNumbers}
 use Rattle.machine.specs.declared.Built.{Built}
 use Rattle.machine.specs.declared.Built.the-variants.{Refused, Machine}

@@ -14,7 +14,7 @@ use Rattle.paper.proofs.machine.Sizes.{places-wrap, depth-wrap}
 use Rattle.pattern.specs.declared.Answer.{Answer}
 use Rattle.pattern.specs.declared.Answer.the-variants.{Accepted}
 use Rattle.pattern.specs.Answer.{answerOf, Checks}
-use Rattle.places.specs.Asked.{tableRoom}
+use Rattle.laying.specs.Room.{tableRoom}
 use Rattle.places.specs.Built as places
 use Rattle.machine.specs.declared.Built.{Built}
 use Rattle.machine.specs.declared.Built.the-variants.{Refused, Machine}

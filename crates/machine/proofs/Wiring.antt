@@ -16,11 +16,11 @@ use Rattle.paper.specs.Tables.{stopPlace, beginOptionalPlace, endPlace, placeNu
 use Rattle.paper.proofs.machine.Sizes.{places-wrap, depth-wrap, depth-levels}
 use Rattle.paper.proofs.machine.Static.{Static, deepAt, deep-most, places-static}
 use Rattle.paper.proofs.machine.Nested.{Forward, places-forward}
-use Rattle.moves.specs.Moves.{kindAt, nextAt, firstAt, manyAt, Slots}
+use Rattle.moves.specs.Moves.{placeKindAt, placeNextAt, placeFirstAt, placeManyAt, Slots}
 use Rattle.visit.specs.Wired.{Wired}
 use Rattle.visit.proofs.Cells.{decode-at}
-use Rattle.places.specs.Laid.{Readable}
-use Rattle.places.specs.Asked.{mostPlaces}
+use Rattle.laying.specs.Laid.{Readable}
+use Rattle.laying.specs.Room.{mostPlaces}
 use Rattle.machine.specs.Machine.{wrapped, firstGroup, Ready, listsNumbers, pendingNumbers, Scratch, smallPlaces, smallLevels, fitsSmall, Runnable}
 
 module _ (pattern : List ℕ) (deep : ℕ → ℕ) (places x : ℕ) where
@@ -82,14 +82,14 @@ wired code pattern e first rows few long decoded readable =
       few = few;
       long = long;
       room = λ x h. cell-room (deepAt e first x) (depth e) (allPlaces e) x (deep-most e first x) h;
-      follows = λ x h k. next-inside pattern (deepAt e first) (allPlaces e) x (kindAt code x) (nextAt code x) (firstAt code x) (manyAt code x) (known x h) k;
+      follows = λ x h k. next-inside pattern (deepAt e first) (allPlaces e) x (placeKindAt code x) (placeNextAt code x) (placeFirstAt code x) (placeManyAt code x) (known x h) k;
       forks = λ x h k. kind-at x h 0 k .1 .0;
-      deeper = λ x h k. next-deep pattern (deepAt e first) (allPlaces e) x (kindAt code x) (nextAt code x) (firstAt code x) (manyAt code x) (known x h) k;
+      deeper = λ x h k. next-deep pattern (deepAt e first) (allPlaces e) x (placeKindAt code x) (placeNextAt code x) (placeFirstAt code x) (placeManyAt code x) (known x h) k;
       deeper-other = λ x h k. kind-at x h 0 k .1 .1;
       raised = λ x h k. kind-at x h 4 k .0 .1;
-      ahead = λ x h k. next-ahead pattern x (kindAt code x) (nextAt code x) (firstAt code x) (manyAt code x) (forward x h) k;
-      ahead-other = λ x h k. subst (λ (j : ℕ). Forward x (placeOf pattern j (nextAt code x) (firstAt code x) (manyAt code x))) k (forward x h) .1;
-      slots = λ x h. slots-known pattern (deepAt e first) (allPlaces e) x (kindAt code x) (nextAt code x) (firstAt code x) (manyAt code x) (known x h);
+      ahead = λ x h k. next-ahead pattern x (placeKindAt code x) (placeNextAt code x) (placeFirstAt code x) (placeManyAt code x) (forward x h) k;
+      ahead-other = λ x h k. subst (λ (j : ℕ). Forward x (placeOf pattern j (placeNextAt code x) (placeFirstAt code x) (placeManyAt code x))) k (forward x h) .1;
+      slots = λ x h. slots-known pattern (deepAt e first) (allPlaces e) x (placeKindAt code x) (placeNextAt code x) (placeFirstAt code x) (placeManyAt code x) (known x h);
       ranges = λ x h k. readable x h .pairs-end k;
     }
   where
@@ -102,9 +102,9 @@ wired code pattern e first rows few long decoded readable =
     forward : (x : ℕ) → x < allPlaces e → Forward x (placeAt code pattern x)
     forward x h = subst (Forward x) (listed x h) (places-forward e first x)
 
-    kind-at : (x : ℕ) → x < allPlaces e → (k : ℕ) → kindAt code x ≡ k
-        → Known pattern (deepAt e first) (allPlaces e) x k (nextAt code x) (firstAt code x) (manyAt code x)
-    kind-at x h k = of-kind pattern (deepAt e first) (allPlaces e) x (kindAt code x) (nextAt code x) (firstAt code x) (manyAt code x) k (known x h)
+    kind-at : (x : ℕ) → x < allPlaces e → (k : ℕ) → placeKindAt code x ≡ k
+        → Known pattern (deepAt e first) (allPlaces e) x k (placeNextAt code x) (placeFirstAt code x) (placeManyAt code x)
+    kind-at x h k = of-kind pattern (deepAt e first) (allPlaces e) x (placeKindAt code x) (placeNextAt code x) (placeFirstAt code x) (placeManyAt code x) k (known x h)
 
 -- the tree that is built is within the limits
 few-rows : (searches : Bool) (e : Pattern) → Lawful e → firstGroup searches + groups (wrapped searches e) ≤ rowCount

@@ -18,7 +18,7 @@ use Rattle.paper.specs.Tables.{placeNumbers, decode}
 use Rattle.paper.specs.Replace.{moved, movedStopped}
 use Rattle.threads.specs.Threads.{threadNumbers, branchNumbers}
 use Rattle.run.specs.Steps.{stoppedAs}
-use Rattle.places.specs.Laid.{Readable}
+use Rattle.laying.specs.Laid.{Readable}
 use Rattle.machine.specs.declared.Built.{Built}
 use Rattle.machine.specs.declared.Built.the-variants.{Refused, Machine}
 

@@ -8,7 +8,7 @@ ghost use mathlib.Core.Bool.{Bool, true, false};
 ghost use Prim.Native.Nat.{_≤_, max};
 ghost use lib.ListN.{length};
 ghost use Rattle.paper.specs.Limits.{lineBytes};
-ghost use Rattle.places.specs.Asked.{tableRoom};
+ghost use Rattle.laying.specs.Room.{tableRoom};
 ghost use Rattle.machine.specs.Machine.{Builds, Ready, Runnable, RunsFrom, OrNone, MatchGives, SearchGives, FoundGives, fitsSmall};
 
 // The sizes of a machine's tables, for the largest pattern with a search's wrap around it.

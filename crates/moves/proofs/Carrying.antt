@@ -14,9 +14,9 @@ use lib.Seq.{getD-set-same, getD-set-other}
 use Rattle.paper.specs.Rows.{Rows}
 use Rattle.paper.specs.Machine.{Thread, at, State, isSeen, stopWith}
 use Rattle.paper.proofs.machine.Once.{once, pairsOf, once-snoc}
-use Rattle.threads.specs.Threads.{stored, placeIn, threads, left, Under, Carries}
+use Rattle.threads.specs.Threads.{stored, placeIn, threads, lacking, Under, Carries}
 use Rattle.moves.specs.Shows.{Shows, Carried}
-use Rattle.threads.proofs.Stamps.{left-mark, mark-same, under-mark}
+use Rattle.threads.proofs.Stamps.{lacking-mark, mark-same, under-mark}
 use Rattle.threads.proofs.Stores.{stored-long, stored-before, stored-place, stored-rows, same-threads}
 
 -- whether a pair is among the threads, with one more
@@ -61,7 +61,8 @@ module _ (taken list : List ℕ) (next stamp : ℕ) (rows : Rows) (count : ℕ) 
   carried-more true ts room e = e
   carried-more false ts room e =
       ap₂ (λ (x y : List Thread). x ++ y)
-      (e ∙ sym (same-threads (stored list (21 * count) next rows) list count (stored-long list (21 * count) next rows long room) (stored-before list (21 * count) next rows long room)))
+      (e ∙ sym (same-threads (stored list (21 * count) next rows) list count (stored-long list (21 * count) next rows long room)
+      (stored-before list (21 * count) next rows long room)))
       (sym (ap₂ (λ (x : ℕ) (r : Rows). at x 0 r ∷ []) (stored-place list (21 * count) next rows long room) (stored-rows list (21 * count) next rows long room)))
       ∙ ap (threads (stored list (21 * count) next rows)) (sym (add-one count))
 
@@ -90,16 +91,18 @@ module _ (taken list : List ℕ) (next stamp : ℕ) (rows : Rows) (count : ℕ) 
       kept-long true = refl
       kept-long false = stored-long list (21 * count) next rows long room-here
 
-      still-fits : (b : Bool) → eqb (getD taken next 0) stamp ≡ b → cond b count (count + 1) + left stamp (set taken next stamp) ≤ places
-      still-fits true e = subst (λ (t : List ℕ). count + left stamp t ≤ places) (sym (mark-same stamp taken next e)) (was .fits)
-      still-fits false e = omega (arith, left-mark stamp taken next (omega (arith, was .taken-long)) e, was .fits)
+      still-fits : (b : Bool) → eqb (getD taken next 0) stamp ≡ b → cond b count (count + 1) + lacking stamp (set taken next stamp) ≤ places
+      still-fits true e = subst (λ (t : List ℕ). count + lacking stamp t ≤ places) (sym (mark-same stamp taken next e)) (was .fits)
+      still-fits false e = omega (arith, lacking-mark stamp taken next (omega (arith, was .taken-long)) e, was .fits)
 
       still-inside : (b : Bool) (i : ℕ) → i < cond b count (count + 1) → placeIn (cond b list (stored list (21 * count) next rows)) i < places
       still-inside true i h = was .inside i h
       still-inside false i h = look (ℕ-discrete i count)
         where
           look : Dec (i ≡ count) → placeIn (stored list (21 * count) next rows) i < places
-          look (yes e) = subst (λ (x : ℕ). x < places) (sym (ap (λ (j : ℕ). placeIn (stored list (21 * count) next rows) j) e ∙ stored-place list (21 * count) next rows long room-here)) inside
+          look (yes e) =
+              subst (λ (x : ℕ). x < places)
+              (sym (ap (λ (j : ℕ). placeIn (stored list (21 * count) next rows) j) e ∙ stored-place list (21 * count) next rows long room-here)) inside
           look (no ne) =
               let lt : i < count = omega arith in
               subst (λ (x : ℕ). x < places) (sym (stored-before list (21 * count) next rows long room-here (21 * i) (omega arith))) (was .inside i lt)
@@ -111,8 +114,8 @@ module _ (taken list : List ℕ) (next stamp : ℕ) (rows : Rows) (count : ℕ) 
         list-long = subst (λ (n : ℕ). 21 * (places + 1) ≤ n) (sym (ap length (made .kept) ∙ kept-long (eqb (getD taken next 0) stamp))) (was .list-long);
         under = subst (Under stamp) (sym (made .marked)) (under-mark stamp taken next (was .under));
         fits =
-            subst (λ (n : ℕ). n + left stamp taken′ ≤ places) (sym (made .counted))
-            (subst (λ (t : List ℕ). cond (eqb (getD taken next 0) stamp) count (count + 1) + left stamp t ≤ places) (sym (made .marked))
+            subst (λ (n : ℕ). n + lacking stamp taken′ ≤ places) (sym (made .counted))
+            (subst (λ (t : List ℕ). cond (eqb (getD taken next 0) stamp) count (count + 1) + lacking stamp t ≤ places) (sym (made .marked))
             (still-fits (eqb (getD taken next 0) stamp) refl));
         inside = λ i h.
             subst (λ (l : List ℕ). placeIn l i < places) (sym (made .kept))
@@ -132,7 +135,8 @@ module _ (taken list : List ℕ) (stamp : ℕ) (rows : Rows) (count : ℕ) (long
     pairs = sh .pairs;
     marks = sh .marks;
     carried = sh .carried
-        ∙ sym (same-threads (stored list (21 * count) 0 rows) list count (stored-long list (21 * count) 0 rows long winner-room) (stored-before list (21 * count) 0 rows long winner-room));
+        ∙ sym (same-threads (stored list (21 * count) 0 rows) list count (stored-long list (21 * count) 0 rows long winner-room)
+        (stored-before list (21 * count) 0 rows long winner-room));
     winner = ap some (sym (stored-rows list (21 * count) 0 rows long winner-room));
     counted = sh .counted;
   }

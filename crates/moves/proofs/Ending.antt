@@ -52,7 +52,9 @@ module _ {pattern : List ℕ} {p kind next a n : ℕ} {taken list : List ℕ} {c
     }
 
     pub settles-early : kind ≡ 9 → there ≡ true → Settles pattern there byte p kind next a n rows taken list count taken list count false
-    settles-early e before = settles-stay (λ line along level. move-early pattern line kind next a n p level rows e (λ same. omega (arith, ltb-true p (length line) (sym (along .is-there) ∙ before))))
+    settles-early e more =
+        settles-stay (λ line along level. move-early pattern line kind next a n p level rows e
+        (λ same. omega (arith, ltb-true p (length line) (sym (along .is-there) ∙ more))))
 
     pub settles-die : (kind ≡ 9 → ⊥) → (r : Bool) → Eats pattern there byte kind a n r → r ≡ false
         → Settles pattern there byte p kind next a n rows taken list count taken list count false

@@ -125,11 +125,13 @@ module _ (kind a n p places floor : ℕ) (rows : Rows) where
 
   -- open
   pub leads-open : kind ≡ 1 → Leads kind a n p places floor rows true floor (set rows (2 * a) p)
-  leads-open e = leads-known 1 e true floor (set rows (2 * a) p) (length-set rows (2 * a) p) (λ h g. omega arith) (λ level h. h) (λ level h pattern line next place visit s. refl)
+  leads-open e =
+      leads-known 1 e true floor (set rows (2 * a) p) (length-set rows (2 * a) p) (λ h g. omega arith) (λ level h. h) (λ level h pattern line next place visit s. refl)
 
   -- close
   pub leads-close : kind ≡ 2 → Leads kind a n p places floor rows true floor (set rows (2 * a + 1) p)
-  leads-close e = leads-known 2 e true floor (set rows (2 * a + 1) p) (length-set rows (2 * a + 1) p) (λ h g. omega arith) (λ level h. h) (λ level h pattern line next place visit s. refl)
+  leads-close e =
+      leads-known 2 e true floor (set rows (2 * a + 1) p) (length-set rows (2 * a + 1) p) (λ h g. omega arith) (λ level h. h) (λ level h pattern line next place visit s. refl)
 
   -- begin
   pub leads-begin : (rows′ : Rows) → rows′ ≡ clear a n rows → kind ≡ 3 → Leads kind a n p places floor rows true floor rows′

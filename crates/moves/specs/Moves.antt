@@ -13,17 +13,17 @@ use Rattle.paper.specs.Tables.{openPlace, closePlace, beginPlace, beginOptional
 use Rattle.moves.specs.Shows.{AheadIn, Shows, Carried}
 
 -- the four numbers of a place in a table
-abbrev pub kindAt : List ℕ → ℕ → ℕ
-kindAt code x = getD code (placeNumbers * x) 0
+abbrev pub placeKindAt : List ℕ → ℕ → ℕ
+placeKindAt code x = getD code (placeNumbers * x) 0
 
-abbrev pub nextAt : List ℕ → ℕ → ℕ
-nextAt code x = getD code (placeNumbers * x + 1) 0
+abbrev pub placeNextAt : List ℕ → ℕ → ℕ
+placeNextAt code x = getD code (placeNumbers * x + 1) 0
 
-abbrev pub firstAt : List ℕ → ℕ → ℕ
-firstAt code x = getD code (placeNumbers * x + 2) 0
+abbrev pub placeFirstAt : List ℕ → ℕ → ℕ
+placeFirstAt code x = getD code (placeNumbers * x + 2) 0
 
-abbrev pub manyAt : List ℕ → ℕ → ℕ
-manyAt code x = getD code (placeNumbers * x + 3) 0
+abbrev pub placeManyAt : List ℕ → ℕ → ℕ
+placeManyAt code x = getD code (placeNumbers * x + 3) 0
 
 -- the rows that a place of this kind touches exist
 pub record Slots (kind a n : ℕ) : Type 0 where

@@ -9,7 +9,7 @@ use lib.Dec.{eqb, ltb}
 use lib.ListN.{length, getD}
 use Rattle.paper.specs.Machine.{State, isSeen}
 use Rattle.paper.proofs.machine.Once.{once, pairsOf}
-use Rattle.threads.specs.Threads.{threadNumbers, rowsIn, placeIn, threads, left, Under}
+use Rattle.threads.specs.Threads.{threadNumbers, rowsIn, placeIn, threads, lacking, Under}
 
 -- what stands in a line at a position inside it or at its end: whether a byte does, and which
 pub record AheadIn (line : List ℕ) (p : ℕ) (there : Bool) (byte : ℕ) : Type 0 where
@@ -30,5 +30,5 @@ pub record Carried (places stamp : ℕ) (taken list : List ℕ) (count : ℕ) : 
   pub taken-long : length taken ≡ places
   pub list-long : threadNumbers * (places + 1) ≤ length list
   pub under : Under stamp taken
-  pub fits : count + left stamp taken ≤ places
+  pub fits : count + lacking stamp taken ≤ places
   pub inside : (i : ℕ) → i < count → placeIn list i < places

@@ -9,7 +9,7 @@ ghost use lib.ListN.{length};
 ghost use Rattle.paper.specs.Reading.{inSet};
 ghost use Rattle.paper.specs.Check.{rangesOf, part};
 ghost use Rattle.paper.specs.Tables.{placeNumbers, forkPlace, setPlace};
-ghost use Rattle.moves.specs.Moves.{kindAt, nextAt, firstAt, manyAt, Slots, Eats, Leads, Settling, Settles};
+ghost use Rattle.moves.specs.Moves.{placeKindAt, placeNextAt, placeFirstAt, placeManyAt, Slots, Eats, Leads, Settling, Settles};
 
 // The kinds of place. Those before SET lead on at once: a fork to two places, the others to one.
 pub const FORK: usize = PlaceKind::FORK as usize;
@@ -57,7 +57,7 @@ pub struct Settled {
 // The numbers of a place.
 pub fn numbers_of(code: &[u16], place: usize) -> Numbers
     requires { ⌜ placeNumbers * place + 3 < length (now code) ⌝ }
-    ensures { λ r. ⌜ (r .kind ≡ kindAt (now (code .entry)) place) × (r .next ≡ nextAt (now (code .entry)) place) × (r .a ≡ firstAt (now (code .entry)) place) × (r .n ≡ manyAt (now (code .entry)) place) ⌝ }
+    ensures { λ r. ⌜ (r .kind ≡ placeKindAt (now (code .entry)) place) × (r .next ≡ placeNextAt (now (code .entry)) place) × (r .a ≡ placeFirstAt (now (code .entry)) place) × (r .n ≡ placeManyAt (now (code .entry)) place) ⌝ }
 {
     let b = PlaceKind::NUMBERS * place;
     Numbers {

@@ -1,5 +1,5 @@
 // Checking a pattern, and the limits that everything else names (01, "Pattern records" and "Numbered refusals and their order").
-mod counts;
+pub mod counts;
 mod sets;
 mod walk;
 

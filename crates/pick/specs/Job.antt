@@ -5,7 +5,7 @@ use mathlib.Core.List.{List}
 use lib.ListN.{length}
 use mathlib.Core.Path.{_≡_}
 use Rattle.paper.specs.Limits.{patternLevels}
-use Rattle.places.specs.Asked.{mostPlaces, tableRoom}
+use Rattle.laying.specs.Room.{mostPlaces, tableRoom}
 use Rattle.machine.specs.Machine.{Ready, listsNumbers, pendingNumbers, Scratch}
 
 -- what reading lines asks: a machine as it was built, scratch for it, and a window inside the buffer

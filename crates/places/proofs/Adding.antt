@@ -17,8 +17,8 @@ use Rattle.paper.specs.Layout.{upperNumber}
 use Rattle.paper.specs.Check.{numberAt, kindAt, bodyStart, bodyEnd, upperOf, repeatHead}
 use Rattle.paper.proofs.layout.MemberList.{listOf}
 use Rattle.pattern.specs.Walk.{placesIn, groupsIn}
-use Rattle.places.specs.Standing.{Stands, AllStand, Row, Passes, UpperRight}
-use Rattle.places.specs.Asked.{insideStart, CountsRight, ownPlaces, OwnPlaces, ownGroups, Capped, Counting, Counted, Summed}
+use Rattle.places.specs.Sums.{Capped, insideStart, CountsRight, ownPlaces, OwnPlaces, ownGroups, Counting, Summed, Counted}
+use Rattle.places.specs.Standing.{UpperRight, Passes, Stands, AllStand, Row}
 
 -- a product of counts is small
 pub product-small : (m p : ℕ) → m ≤ 255 → p ≤ 504 → m * p ≤ 128520

@@ -7,21 +7,23 @@ use lib.ListN.{length}
 use Rattle.paper.specs.Limits.{patternGroups, patternPlaces}
 use Rattle.paper.specs.Refusal.{accepted}
 use Rattle.paper.specs.Pattern.{greedy, lazy, Pattern, places, allPlaces, groups}
-use Rattle.paper.specs.Check.{modeOf, patternOf}
+use Rattle.paper.specs.Check.{patternOf}
 use Rattle.paper.specs.Reading.{everyByte}
 use Rattle.paper.specs.Machine.{Core, eats, captures, chain, star, accept, size, lay, writtenOut, placesOf}
 use Rattle.paper.specs.Match.{wrap}
 use Rattle.paper.specs.Bounds.{searchPlaces}
 use Rattle.paper.proofs.layout.Accepted.{accepted-injective}
 use Rattle.paper.proofs.machine.Sizes.{size-written}
-use Rattle.places.specs.Laid.{Holds, Kept, Lays}
-use Rattle.places.specs.Asked.{Put, Forked, One, OneLaid, HeadLaid, StarLaid}
+use Rattle.laying.specs.Laid.{Holds, Kept, Lays}
+use Rattle.laying.specs.Single.{Put, StarLaid}
+use Rattle.laying.proofs.Stores.{put-holds, plain-holds, holds-kept, lays-kept, kept-both}
+use Rattle.laying.proofs.Entering.{entry-some}
+use Rattle.places.specs.Walk.{One, OneLaid, HeadLaid}
 use Rattle.places.specs.Built.{Accepted, Built}
-use Rattle.places.proofs.Laying.{holds-kept, plain-holds, put-holds, lays-kept, kept-both}
-use Rattle.places.proofs.Entering.{entry-some, star-lays}
-use Rattle.places.proofs.Records.{captures-lays, chain-lays}
 use Rattle.places.proofs.Walked.{Whole, pattern-stands}
 use Rattle.places.proofs.Listing.{listed, lists-one, lists-both, lays-lists, decode-listed}
+use Rattle.places.proofs.Records.{captures-lays}
+use Rattle.places.proofs.Rows.{chain-lays}
 
 -- the places that checking told are the tree's
 pub whole-places : {bs : List ℕ} {e : Pattern} {p g : ℕ} → Accepted bs p g → patternOf bs ≡ accepted e → p ≡ places e
@@ -76,24 +78,6 @@ match-built {bs} {t} {t1} {t2} {e} {p} {g} w same sameg o put =
     let last = put-holds bs put (omega arith) (λ six. absurd (omega arith)) in
     let kept = kept-both 0 (allPlaces e) (o .kept) (put .kept) (omega arith) (omega arith) (omega arith) (omega arith) in
     built-of c (subst (λ (n : ℕ). Lays t2 bs c 0 n) long laid) (subst (λ (x : ℕ). Holds t2 bs x accept) long last) kept (omega arith)
-
--- the four places of an any-byte star
-pub star-laid : {base mode next first : ℕ} {t t1 t2 t3 t4 : List ℕ} → Forked t base mode (base + 1) next t1 → Put t1 (base + 1) 4 (base + 1 + 1) first 0 t2
-    → Put t2 (base + 1 + 1) 7 (base + 1 + 1 + 1) 0 255 t3 → Put t3 (base + 1 + 1 + 1) 5 base 0 0 t4 → StarLaid base mode next first t t4
-star-laid {base} {mode} {next} {first} f b s e =
-    let high = base + 4 in
-    record {
-      kept = kept-both base high
-          (kept-both base high (kept-both base high (f .kept) (b .kept) (omega arith) (omega arith) (omega arith) (omega arith)) (s .kept) (omega arith)
-          (omega arith) (omega arith) (omega arith))
-          (e .kept) (omega arith) (omega arith) (omega arith) (omega arith);
-      laid = λ p.
-          star-lays _ p (modeOf mode) first 0 (eats everyByte) base next 1 refl
-          (holds-kept (e .kept) (omega arith) (holds-kept (s .kept) (omega arith) (holds-kept (b .kept) (omega arith) (f .held p))))
-          (holds-kept (e .kept) (omega arith) (holds-kept (s .kept) (omega arith) (plain-holds p b (omega arith))))
-          (holds-kept (e .kept) (omega arith) (put-holds p s (omega arith) (λ six. absurd (omega arith))))
-          (plain-holds p e (omega arith));
-    }
 
 -- a search's places
 pub search-built : {bs t t1 t2 t3 t4 t5 : List ℕ} {e : Pattern} {p g : ℕ} → Whole bs e → p ≡ places e → g ≡ groups e → StarLaid 0 1 4 0 t t1

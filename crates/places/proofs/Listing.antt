@@ -10,7 +10,7 @@ use borrow.Author.Tests.{ltb-true, ltb-false}
 use lib.Dec.{ltb}
 use Rattle.paper.specs.Machine.{Core, dead, skip, eats, captures, chain, either, must, maybe, star, Place, size, lay, entry, passFork, beginOptional, ending}
 use Rattle.paper.specs.Tables.{placeAt, decode}
-use Rattle.places.specs.Laid.{Readable, Holds, Lays}
+use Rattle.laying.specs.Laid.{Readable, Holds, Lays}
 
 -- so many places of a table from an index on
 abbrev pub listed : List ℕ → List ℕ → ℕ → ℕ → List Place

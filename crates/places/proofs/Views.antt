@@ -12,7 +12,7 @@ use Rattle.paper.specs.Check.{bodyEnd, bodyStart, kindAt, repeatHead}
 use Rattle.paper.specs.Machine.{writtenOut}
 use Rattle.paper.proofs.layout.MemberList.{listOf}
 use Rattle.pattern.specs.Walk.{groupsIn}
-use Rattle.places.specs.Standing.{Stands, Row, Pairs, Passes, rowPlaces, rowCore}
+use Rattle.places.specs.Standing.{Pairs, Passes, Stands, Row, rowPlaces, rowCore}
 use Rattle.places.proofs.Adding.{members-row, members-places, members-groups, members-count, members-two}
 use Rattle.places.proofs.Sizes.{row-chained, row-forked}
 

@@ -10,7 +10,7 @@ use Rattle.paper.specs.Machine.{Place, placesOf}
 use Rattle.paper.specs.Match.{wrap}
 use Rattle.paper.specs.Bounds.{searchPlaces}
 use Rattle.paper.specs.Tables.{placeNumbers, decode}
-use Rattle.places.specs.Laid.{Readable}
+use Rattle.laying.specs.Laid.{Readable}
 
 -- checking takes the pattern, and this is its tree, which has so many places without the accepting one, and so many groups
 pub record Accepted (pattern : List ℕ) (p g : ℕ) : Type 0 where

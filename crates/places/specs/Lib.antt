@@ -1,5 +1,5 @@
 -- What building promises, and what its inner functions ask and promise.
-pub mod Laid
 pub mod Standing
-pub mod Asked
+pub mod Sums
+pub mod Walk
 pub mod Built

@@ -5,7 +5,7 @@ use mathlib.Core.Bool.{Bool, true, false}
 use mathlib.Core.List.{List, [], _∷_}
 use lib.ListN.{length}
 use Rattle.paper.specs.Limits.{setPairs, repeatCount}
-use Rattle.paper.specs.Pattern.{Mode, Upper, upTo, noEnd, Range, Pattern, Members, places, groups}
+use Rattle.paper.specs.Pattern.{Mode, Upper, upTo, noEnd, Range, Pattern, Members, groups}
 use Rattle.paper.specs.Pattern.Pattern.{nothing, empty, bytes, group, sequence, alternation, repeat}
 use Rattle.paper.specs.Pattern.Members.{two, more}
 use Rattle.paper.specs.Layout.{upperNumber, modeNumber}

@@ -21,7 +21,8 @@ use Rattle.machine.specs.declared.Built.{Built}
 use Rattle.machine.specs.Machine.{Ready, Builds}
 use Rattle.replacer.specs.declared.Replaced.{Replaced}
 use Rattle.replacer.specs.declared.scans.Measured.{Measured}
-use Rattle.replacer.specs.Given.{acceptedOr, treeOf, piecesOf, Right, Replaceable, wholeOf}
+use Rattle.turns.specs.Accepted.{acceptedOr, piecesOf, Right}
+use Rattle.replacer.specs.Given.{treeOf, Replaceable, wholeOf}
 use Rattle.replacer.specs.Scans.{Measures}
 use Rattle.replacer.specs.Promise.{Replaces}
 use Rattle.replacer.proofs.Scanning.{ready-tree, ready-accepts}

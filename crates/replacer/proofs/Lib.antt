@@ -1,7 +1,4 @@
 -- Laws of this crate that belong to no one function.
-pub mod Written
-pub mod Putting
-pub mod Turning
 pub mod Scanning
 pub mod Searching
 pub mod Calling

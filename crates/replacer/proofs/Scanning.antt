@@ -13,16 +13,17 @@ use Rattle.paper.specs.Pattern.{Pattern}
 use Rattle.paper.specs.Check.{patternOf}
 use Rattle.paper.specs.Replace.{Scanned, precede}
 use Rattle.paper.proofs.replacing.ReplaceBound.{mostSum, replaceAll-most}
-use Rattle.paper.proofs.replacing.ScanWays as ways
-use Rattle.paper.proofs.replacing.ScanWays.{turnBytes, turnCount, turnRest, ended, TurnFits, turn-fits, scanFrom, scan-whole, scan-turn}
+use Rattle.paper.specs.ScanTurn.{turnBytes, TurnFits}
+use Rattle.paper.proofs.replacing.ScanWays.{turnCount, turnRest, ended, turn-fits, scanFrom, scan-whole, scan-turn}
 use Rattle.paper.proofs.replacing.ScanLengths.{mostOutput, replaceAll-short}
 use Rattle.machine.specs.Machine.{Ready, Runnable}
-use Rattle.replacer.specs.declared.turns.Turn.{Turn}
-use Rattle.replacer.specs.Given.{acceptedOr, treeOf, piecesOf, Right, wholeOf}
-use Rattle.replacer.specs.Turn.{lastOf, asTurn}
-use Rattle.replacer.specs.Appended.{Appended}
+use Rattle.turns.specs.declared.Turn.{Turn}
+use Rattle.turns.specs.Accepted.{acceptedOr, piecesOf, Right}
+use Rattle.replacer.specs.Given.{treeOf, wholeOf}
+use Rattle.turns.specs.Turn.{lastOf, asTurn}
+use Rattle.turns.specs.Appended.{Appended}
 use Rattle.replacer.specs.Scans.{Turns, Measures}
-use Rattle.replacer.proofs.Written.{nothing-written, written-on}
+use Rattle.turns.proofs.Written.{nothing-written, written-on}
 
 -- ---- the scratch that is lent keeps its lengths
 

@@ -12,11 +12,11 @@ use Rattle.paper.specs.Match.{search, searchSteps, isMatch, rowsOrNone}
 use Rattle.paper.specs.Replace.{moved}
 use Rattle.paper.proofs.reading.AnswerRows.{Answered}
 use Rattle.paper.proofs.replacing.ScanTurns.{Ahead, match-ahead}
-use Rattle.paper.proofs.replacing.ScanWays.{turnOf}
+use Rattle.paper.specs.ScanTurn.{turnOf}
 use Rattle.machine.specs.Machine.{Ready, Gives, SearchGives}
-use Rattle.replacer.specs.declared.turns.Turn.{Turn}
+use Rattle.turns.specs.declared.Turn.{Turn}
 use Rattle.replacer.specs.Given.{treeOf}
-use Rattle.replacer.specs.Turn.{lastOf, foundOf, Finds, asTurn}
+use Rattle.turns.specs.Turn.{lastOf, foundOf, Finds, asTurn}
 use Rattle.replacer.specs.Scans.{Turns}
 use Rattle.replacer.proofs.Scanning.{ready-accepts}
 

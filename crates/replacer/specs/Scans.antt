@@ -4,11 +4,11 @@ use mathlib.Core.Path.{_≡_}
 use mathlib.Core.List.{List}
 use lib.ListN.{length, drop}
 use Rattle.paper.specs.Match.{searchSteps}
-use Rattle.paper.proofs.replacing.ScanWays.{turnAt}
-use Rattle.replacer.specs.declared.turns.Turn.{Turn}
+use Rattle.paper.specs.ScanTurn.{turnAt}
+use Rattle.turns.specs.declared.Turn.{Turn}
 use Rattle.replacer.specs.declared.scans.Measured.{Measured}
 use Rattle.replacer.specs.Given.{treeOf, wholeOf}
-use Rattle.replacer.specs.Turn.{lastOf, asTurn}
+use Rattle.turns.specs.Turn.{lastOf, asTurn}
 
 -- the turn of the search from a position, after a non-empty match that ended there or elsewhere
 pub record Turns (pattern line : List ℕ) (from last : ℕ) (r : Turn) : Type 0 where

@@ -1,7 +1,5 @@
 // Replace-all: the line with the template put in for each match (01, "Replace-all"), over a machine that is built once.
 mod scans;
-mod turns;
-mod writing;
 
 use machine::Built;
 use machine::Machine;

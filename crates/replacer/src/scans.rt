@@ -1,13 +1,13 @@
 // The scan over the line, search by search: once to measure what it writes, and once to write it. Both make the same turns.
-use crate::turns;
-use crate::turns::Turn;
+use turns::Turn;
 ghost use mathlib.Core.Path.{_≡_};
 ghost use mathlib.Core.Bool.{Bool, cond};
 ghost use mathlib.Core.List.{_++_};
-ghost use Prim.Native.Nat.{ℕ, _≤_};
+ghost use Prim.Native.Nat.{_≤_};
 ghost use lib.ListN.{length, drop};
 ghost use Rattle.machine.specs.Machine.{Runnable};
-ghost use Rattle.replacer.specs.Given.{Right, wholeOf};
+ghost use Rattle.turns.specs.Accepted.{Right};
+ghost use Rattle.replacer.specs.Given.{wholeOf};
 ghost use Rattle.replacer.specs.Scans.{Turns, Measures};
 
 // The output's length, the replacements and the sum of all searches' steps.

@@ -14,11 +14,11 @@ use Rattle.paper.specs.Rows.{Rows}
 use Rattle.paper.specs.Machine.{Place, Thread, at, State, fresh, isWon, isSeen, visit, visits}
 use Rattle.paper.specs.Tables.{decode}
 use Rattle.paper.proofs.machine.Once.{visit-blocked}
-use Rattle.threads.specs.Threads.{placeIn, rowsIn, threadIn, threads, left, Under}
+use Rattle.threads.specs.Threads.{placeIn, rowsIn, threadIn, threads, lacking, Under}
 use Rattle.moves.specs.Shows.{Shows, Carried}
 use Rattle.visit.specs.Wired.{Wired}
 use Rattle.visit.specs.Visits.{Arrives, Visits}
-use Rattle.threads.proofs.Stamps.{left-all}
+use Rattle.threads.proofs.Stamps.{lacking-all}
 use Rattle.visit.proofs.Loop.{rewire, at-most-one}
 use Rattle.run.specs.Steps.{Stepping, Steps}
 
@@ -65,7 +65,7 @@ pub record Walk (code pattern line : List ℕ) (places p : ℕ) (seen₀ taken�
   pub list-long : length list ≡ length list₀
   pub under : Under (p + 1) seen
   pub carried : Carried places (p + 1) taken list count
-  pub each : steps + left (p + 1) seen ≡ steps₀ + left (p + 1) seen₀
+  pub each : steps + lacking (p + 1) seen ≡ steps₀ + lacking (p + 1) seen₀
   pub shows : (k : ℕ) → length seen₀ < k
       → Shows places (p + 1) seen taken list count steps done (visits k (decode code pattern places) line p (threads from i) (fresh steps₀))
 
@@ -97,7 +97,7 @@ walk-first code pattern line places p seen taken from number list pending steps 
     taken-long = asked .taken-long;
     list-long = asked .list-long;
     under = under-more p taken (asked .taken-under);
-    fits = omega (arith, left-all (p + 1) taken, asked .taken-long);
+    fits = omega (arith, lacking-all (p + 1) taken, asked .taken-long);
     inside = λ i h. absurd (omega arith);
   };
   each = refl;
@@ -144,7 +144,7 @@ module _ {code pattern line : List ℕ} {places p : ℕ} {seen₀ taken₀ from 
     early = w .early;
     under = w .under;
     carried = w .carried;
-    countable = omega (arith, w .each, w .countable, left-all (p + 1) seen₀);
+    countable = omega (arith, w .each, w .countable, lacking-all (p + 1) seen₀);
   }
 
   -- after its visit
@@ -177,7 +177,7 @@ module _ {code pattern line : List ℕ} {places p : ℕ} {seen₀ taken₀ from 
         (ap₂ (λ (x : ℕ) (r : Rows). visit k (decode code pattern places) line p (at x 0 r) was) e er
         ∙ (sym (visits-snoc k (decode code pattern places) line p (threads from i) (threadIn from i) (fresh steps₀))
         ∙ ap (λ (j : ℕ). visits k (decode code pattern places) line p (threads from j) (fresh steps₀)) (sym (add-one i))))
-        (made .shows k was shown (omega (arith, left-all (p + 1) seen, w .long)));
+        (made .shows k was shown (omega (arith, lacking-all (p + 1) seen, w .long)));
   }
 
   -- fewer threads are left
@@ -202,6 +202,6 @@ module _ {code pattern line : List ℕ} {places p : ℕ} {seen₀ taken₀ from 
   walk-last stop = record {
     under = w .under;
     carried = w .carried;
-    bounded = omega (arith, w .each, left-all (p + 1) seen₀);
+    bounded = omega (arith, w .each, lacking-all (p + 1) seen₀);
     shows = λ k h. subst (Shows places (p + 1) seen taken list count steps done) (sym (all-visited done refl stop k h)) (w .shows k h);
   }

@@ -75,12 +75,12 @@ fn step(
     number: usize,
     places: usize,
     at: u16,
-    before: u32,
+    made: u32,
 ) -> Visited
-    requires { ⌜ Stepping (now code) (now pattern) places at (now seen) (now taken) (listOf places second (now lists)) number (listOf places (not second) (now lists)) (now pending) before ⌝ }
+    requires { ⌜ Stepping (now code) (now pattern) places at (now seen) (now taken) (listOf places second (now lists)) number (listOf places (not second) (now lists)) (now pending) made ⌝ }
     requires { ⌜ 2 * (threadNumbers * (places + 1)) ≤ length (now lists) ⌝ }
     requires { ⌜ at ≤ length (now line) ⌝ }
-    ensures { λ r. ⌜ Steps (now (code .entry)) (now (pattern .entry)) (now (line .entry)) places at (now (seen .entry)) (now (taken .entry)) (listOf places second (now (lists .entry))) number before (now (seen .exit)) (now (taken .exit)) (listOf places (not second) (now (lists .exit))) (r .count) (r .steps) (r .done) ⌝ }
+    ensures { λ r. ⌜ Steps (now (code .entry)) (now (pattern .entry)) (now (line .entry)) places at (now (seen .entry)) (now (taken .entry)) (listOf places second (now (lists .entry))) number made (now (seen .exit)) (now (taken .exit)) (listOf places (not second) (now (lists .exit))) (r .count) (r .steps) (r .done) ⌝ }
 {
     let long = threads::THREAD * (places + 1);
     let from = list_at(second, long);
@@ -89,7 +89,7 @@ fn step(
     let ahead = ahead_at(line, at);
     let mut i = 0;
     let mut count = 0;
-    let mut steps = before;
+    let mut steps = made;
     let mut done = false;
     let mut goes = true;
     while goes {

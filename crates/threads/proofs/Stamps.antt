@@ -10,19 +10,19 @@ use borrow.Author.Tests.{eq-eqb, eqb-true}
 use lib.Dec.{eqb}
 use lib.ListN.{length, getD, set}
 use lib.Seq.{getD-set-same, getD-set-other, set-getD, set-out}
-use Rattle.threads.specs.Threads.{left, Under}
+use Rattle.threads.specs.Threads.{lacking, Under}
 
 -- an entry that gets the stamp is one less without it
-pub left-mark : (stamp : ℕ) (table : List ℕ) (i : ℕ) → i < length table → eqb (getD table i 0) stamp ≡ false
-    → suc (left stamp (set table i stamp)) ≡ left stamp table
-left-mark stamp [] i h e = absurd (omega arith)
-left-mark stamp (x ∷ xs) zero h e =
-    ap (λ (b : Bool). suc (cond b (left stamp xs) (suc (left stamp xs)))) (eq-eqb stamp stamp refl)
-    ∙ sym (ap (λ (b : Bool). cond b (left stamp xs) (suc (left stamp xs))) e)
-left-mark stamp (x ∷ xs) (suc i) h e = look (eqb x stamp) (left-mark stamp xs i (omega arith) e)
+pub lacking-mark : (stamp : ℕ) (table : List ℕ) (i : ℕ) → i < length table → eqb (getD table i 0) stamp ≡ false
+    → suc (lacking stamp (set table i stamp)) ≡ lacking stamp table
+lacking-mark stamp [] i h e = absurd (omega arith)
+lacking-mark stamp (x ∷ xs) zero h e =
+    ap (λ (b : Bool). suc (cond b (lacking stamp xs) (suc (lacking stamp xs)))) (eq-eqb stamp stamp refl)
+    ∙ sym (ap (λ (b : Bool). cond b (lacking stamp xs) (suc (lacking stamp xs))) e)
+lacking-mark stamp (x ∷ xs) (suc i) h e = look (eqb x stamp) (lacking-mark stamp xs i (omega arith) e)
   where
-    look : (b : Bool) → suc (left stamp (set xs i stamp)) ≡ left stamp xs
-        → suc (cond b (left stamp (set xs i stamp)) (suc (left stamp (set xs i stamp)))) ≡ cond b (left stamp xs) (suc (left stamp xs))
+    look : (b : Bool) → suc (lacking stamp (set xs i stamp)) ≡ lacking stamp xs
+        → suc (cond b (lacking stamp (set xs i stamp)) (suc (lacking stamp (set xs i stamp)))) ≡ cond b (lacking stamp xs) (suc (lacking stamp xs))
     look true h = h
     look false h = ap suc h
 
@@ -31,11 +31,11 @@ pub mark-same : (stamp : ℕ) (table : List ℕ) (i : ℕ) → eqb (getD table i
 mark-same stamp table i e = ap (λ (v : ℕ). set table i v) (sym (eqb-true (getD table i 0) stamp e)) ∙ set-getD table i 0
 
 -- no more than all entries lack a stamp
-pub left-all : (stamp : ℕ) (table : List ℕ) → left stamp table ≤ length table
-left-all stamp [] = omega arith
-left-all stamp (x ∷ xs) = look (eqb x stamp) (left-all stamp xs)
+pub lacking-all : (stamp : ℕ) (table : List ℕ) → lacking stamp table ≤ length table
+lacking-all stamp [] = omega arith
+lacking-all stamp (x ∷ xs) = look (eqb x stamp) (lacking-all stamp xs)
   where
-    look : (b : Bool) → left stamp xs ≤ length xs → cond b (left stamp xs) (suc (left stamp xs)) ≤ suc (length xs)
+    look : (b : Bool) → lacking stamp xs ≤ length xs → cond b (lacking stamp xs) (suc (lacking stamp xs)) ≤ suc (length xs)
     look true h = omega arith
     look false h = omega arith
 

@@ -45,9 +45,9 @@ abbrev pub waited : List ℕ → ℕ → ℕ → ℕ → Rows → List ℕ
 waited pending i floor place rows = stored (set pending (branchNumbers * i) floor) (branchNumbers * i + 1) place rows
 
 -- how many entries of a table do not have this stamp
-abbrev pub left : ℕ → List ℕ → ℕ
-left stamp [] = 0
-left stamp (x ∷ xs) = cond (eqb x stamp) (left stamp xs) (suc (left stamp xs))
+abbrev pub lacking : ℕ → List ℕ → ℕ
+lacking stamp [] = 0
+lacking stamp (x ∷ xs) = cond (eqb x stamp) (lacking stamp xs) (suc (lacking stamp xs))
 
 -- no entry of a table has a later stamp
 abbrev pub Under : ℕ → List ℕ → Type 0

@@ -16,7 +16,7 @@ use Rattle.paper.specs.Rows.{Rows}
 use Rattle.paper.specs.Machine.{at, State, isSeen, isWon, blocked, mark, stop}
 use Rattle.paper.specs.Tables.{decode, placeAt}
 use Rattle.moves.specs.Shows.{Shows}
-use Rattle.moves.specs.Moves.{kindAt, nextAt, levelAfter}
+use Rattle.moves.specs.Moves.{placeKindAt, placeNextAt, levelAfter}
 use Rattle.visit.specs.Wired.{Wired}
 
 -- ---- entries
@@ -53,21 +53,21 @@ module _ {code pattern : List ℕ} {places cells : ℕ} (w : Wired code pattern 
   level-inside = omega (arith, le-mul-of-pos-right {m = places} level (omega arith), cell-inside)
 
   -- the level at the follower of a place that leads on is within the follower's depth
-  pub deep-after : 0 < kindAt code x → kindAt code x < 6 → levelAfter (kindAt code x) level ≤ w .deep (nextAt code x)
-  deep-after lo hi = five (ℕ-discrete (kindAt code x) 5)
+  pub deep-after : 0 < placeKindAt code x → placeKindAt code x < 6 → levelAfter (placeKindAt code x) level ≤ w .deep (placeNextAt code x)
+  deep-after lo hi = five (ℕ-discrete (placeKindAt code x) 5)
     where
-      four : (kindAt code x ≡ 5 → ⊥) → Dec (kindAt code x ≡ 4) → levelAfter (kindAt code x) level ≤ w .deep (nextAt code x)
+      four : (placeKindAt code x ≡ 5 → ⊥) → Dec (placeKindAt code x ≡ 4) → levelAfter (placeKindAt code x) level ≤ w .deep (placeNextAt code x)
       four n5 (yes e) =
-          subst (λ (k : ℕ). levelAfter k level ≤ w .deep (nextAt code x)) (sym e) (omega (arith, w .raised x inside e))
+          subst (λ (k : ℕ). levelAfter k level ≤ w .deep (placeNextAt code x)) (sym e) (omega (arith, w .raised x inside e))
       four n5 (no n4) =
-          subst (λ (l : ℕ). l ≤ w .deep (nextAt code x))
-          (sym (ap (λ (b : Bool). cond b 0 (cond (eqb (kindAt code x) 4) (level + 1) level)) (ne-eqb (kindAt code x) 5 n5)
-          ∙ ap (λ (b : Bool). cond b (level + 1) level) (ne-eqb (kindAt code x) 4 n4)))
+          subst (λ (l : ℕ). l ≤ w .deep (placeNextAt code x))
+          (sym (ap (λ (b : Bool). cond b 0 (cond (eqb (placeKindAt code x) 4) (level + 1) level)) (ne-eqb (placeKindAt code x) 5 n5)
+          ∙ ap (λ (b : Bool). cond b (level + 1) level) (ne-eqb (placeKindAt code x) 4 n4)))
           (omega (arith, w .deeper x inside (omega arith)))
 
-      five : Dec (kindAt code x ≡ 5) → levelAfter (kindAt code x) level ≤ w .deep (nextAt code x)
-      five (yes e) = subst (λ (k : ℕ). levelAfter k level ≤ w .deep (nextAt code x)) (sym e) (omega arith)
-      five (no n5) = four n5 (ℕ-discrete (kindAt code x) 4)
+      five : Dec (placeKindAt code x ≡ 5) → levelAfter (placeKindAt code x) level ≤ w .deep (placeNextAt code x)
+      five (yes e) = subst (λ (k : ℕ). levelAfter k level ≤ w .deep (placeNextAt code x)) (sym e) (omega arith)
+      five (no n5) = four n5 (ℕ-discrete (placeKindAt code x) 4)
 
 -- ---- the place at an index
 

@@ -14,14 +14,14 @@ use lib.Seq.{length-take-le}
 use Rattle.paper.specs.Rows.{Rows}
 use Rattle.paper.specs.Machine.{Thread, at, State, visit}
 use Rattle.paper.specs.Tables.{decode}
-use Rattle.threads.specs.Threads.{left, waited, rowsFrom, Under}
+use Rattle.threads.specs.Threads.{lacking, waited, rowsFrom, Under}
 use Rattle.moves.specs.Shows.{AheadIn, Shows, Carried}
-use Rattle.moves.specs.Moves.{Slots, kindAt, levelAfter, Leads, Settling, Settles}
+use Rattle.moves.specs.Moves.{Slots, placeKindAt, levelAfter, Leads, Settling, Settles}
 use Rattle.visit.specs.Wired.{Wired}
 use Rattle.visit.specs.Visits.{Arrives, Visits}
-use Rattle.threads.proofs.Stamps.{left-mark, mark-same, under-mark}
+use Rattle.threads.proofs.Stamps.{lacking-mark, mark-same, under-mark}
 use Rattle.visit.proofs.Cells.{cell-inside, deep-after}
-use Rattle.visit.proofs.Waiting.{leftLow, low-most, low-mark, low-other, reach, Waits, waits-fewer, waited-long, waits-more, Taken, waits-less, waits-none}
+use Rattle.visit.proofs.Waiting.{lackingLow, low-most, low-mark, low-other, reach, Waits, waits-fewer, waited-long, waits-more, Taken, waits-less, waits-none}
 use Rattle.visit.proofs.Turns.{Stands, Reads, stands-seen, stands-lead, stands-settle, stands-fork}
 
 -- the same table for as many entries
@@ -69,18 +69,18 @@ pub record Turn (code pattern : List ℕ) (there : Bool) (byte places p : ℕ) (
   pub pending-long : length pending ≡ length pending₀
   pub under : Under (p + 1) seen
   pub carried : Carried places (p + 1) taken list count
-  pub each : steps + left (p + 1) seen ≡ steps₀ + left (p + 1) seen₀
-  pub fewer : left (p + 1) seen ≤ left (p + 1) seen₀
+  pub each : steps + lacking (p + 1) seen ≡ steps₀ + lacking (p + 1) seen₀
+  pub fewer : lacking (p + 1) seen ≤ lacking (p + 1) seen₀
   pub unwon : goes ≡ true → done ≡ false
-  pub waits : Waits places (asked .wired .deep) pending (leftLow places (p + 1) seen) waiting waiters
-  pub bounded : alive ≡ true → waiting + leftLow places (p + 1) seen ≤ places + reach level x
-  pub stands : (line : List ℕ) → AheadIn line p there byte → (k : ℕ) (s : State) → Shows places (p + 1) seen₀ taken₀ list₀ count₀ steps₀ false s → left (p + 1) seen₀ < k
+  pub waits : Waits places (asked .wired .deep) pending (lackingLow places (p + 1) seen) waiting waiters
+  pub bounded : alive ≡ true → waiting + lackingLow places (p + 1) seen ≤ places + reach level x
+  pub stands : (line : List ℕ) → AheadIn line p there byte → (k : ℕ) (s : State) → Shows places (p + 1) seen₀ taken₀ list₀ count₀ steps₀ false s → lacking (p + 1) seen₀ < k
       → Stands code pattern line places p seen taken list count steps goes done (cond alive (at x level rows ∷ waiters) waiters)
       (visit k (decode code pattern places) line p (at x₀ 0 rows₀) s)
 
 -- how far the loop can still go
 abbrev pub turns : ℕ → List ℕ → ℕ → Bool → Bool → ℕ
-turns p seen waiting alive goes = 3 * left (p + 1) seen + (2 * waiting + (cond alive 1 0 + cond goes 1 0))
+turns p seen waiting alive goes = 3 * lacking (p + 1) seen + (2 * waiting + (cond alive 1 0 + cond goes 1 0))
 
 never : {A : Type 0} → false ≡ true → A
 never f =
@@ -134,7 +134,8 @@ module _ {code pattern : List ℕ} {there : Bool} {byte places p : ℕ} {seen₀
   turn-numbers = omega (arith, t .asked .wired .long, t .inside)
 
   -- a thread is next
-  going : (line : List ℕ) → AheadIn line p there byte → alive ≡ true → goes ≡ true → (k : ℕ) (s : State) → Shows places (p + 1) seen₀ taken₀ list₀ count₀ steps₀ false s → left (p + 1) seen₀ < k
+  going : (line : List ℕ) → AheadIn line p there byte → alive ≡ true → goes ≡ true → (k : ℕ) (s : State)
+      → Shows places (p + 1) seen₀ taken₀ list₀ count₀ steps₀ false s → lacking (p + 1) seen₀ < k
       → Stands code pattern line places p seen taken list count steps true false (at x (t .level) rows ∷ t .waiters) (visit k (decode code pattern places) line p (at x₀ 0 rows₀) s)
   going line along lives go k s sh h =
       subst (λ (a : Bool). Stands code pattern line places p seen taken list count steps true false (cond a (at x (t .level) rows ∷ t .waiters) (t .waiters))
@@ -143,7 +144,8 @@ module _ {code pattern : List ℕ} {there : Bool} {byte places p : ℕ} {seen₀
       (visit k (decode code pattern places) line p (at x₀ 0 rows₀) s)) go (t .unwon go) (t .stands line along k s sh h))
 
   -- none is next
-  resting : (line : List ℕ) → AheadIn line p there byte → alive ≡ false → goes ≡ true → (k : ℕ) (s : State) → Shows places (p + 1) seen₀ taken₀ list₀ count₀ steps₀ false s → left (p + 1) seen₀ < k
+  resting : (line : List ℕ) → AheadIn line p there byte → alive ≡ false → goes ≡ true → (k : ℕ) (s : State)
+      → Shows places (p + 1) seen₀ taken₀ list₀ count₀ steps₀ false s → lacking (p + 1) seen₀ < k
       → Stands code pattern line places p seen taken list count steps true done (t .waiters) (visit k (decode code pattern places) line p (at x₀ 0 rows₀) s)
   resting line along dead go k s sh h =
       subst (λ (a : Bool). Stands code pattern line places p seen taken list count steps true done (cond a (at x (t .level) rows ∷ t .waiters) (t .waiters))
@@ -152,7 +154,8 @@ module _ {code pattern : List ℕ} {there : Bool} {byte places p : ℕ} {seen₀
       (visit k (decode code pattern places) line p (at x₀ 0 rows₀) s)) go (t .stands line along k s sh h))
 
   -- at the end, what the visit promises
-  pub turn-last : goes ≡ false → (line : List ℕ) → AheadIn line p there byte → Visits code pattern line places p x₀ rows₀ seen₀ taken₀ list₀ count₀ steps₀ seen taken list count steps done
+  pub turn-last : goes ≡ false → (line : List ℕ) → AheadIn line p there byte
+      → Visits code pattern line places p x₀ rows₀ seen₀ taken₀ list₀ count₀ steps₀ seen taken list count steps done
   turn-last e line along = record {
     under = t .under;
     carried = t .carried;
@@ -189,7 +192,7 @@ module _ {code pattern : List ℕ} {there : Bool} {byte places p : ℕ} {seen₀
     stands = λ line along k s sh h.
         let final = visit k (decode code pattern places) line p (at x₀ 0 rows₀) s in
         let st = subst (λ (ts : List Thread). Stands code pattern line places p seen taken list count steps true done ts final)
-        (waits-none places (t .asked .wired .deep) pending (leftLow places (p + 1) seen) waiting (t .waiters) none (t .waits)) (resting line along dead go k s sh h) in
+        (waits-none places (t .asked .wired .deep) pending (lackingLow places (p + 1) seen) waiting (t .waiters) none (t .waits)) (resting line along dead go k s sh h) in
         record { state = st .state; shows = st .shows; rest = st .rest };
   }
 
@@ -200,11 +203,11 @@ module _ {code pattern : List ℕ} {there : Bool} {byte places p : ℕ} {seen₀
 
   -- the last branch that waits is next
   module _ (some : 0 < waiting) where
-    taken-branch : Taken places (t .asked .wired .deep) pending (leftLow places (p + 1) seen) (waiting - 1) (t .waiters)
+    taken-branch : Taken places (t .asked .wired .deep) pending (lackingLow places (p + 1) seen) (waiting - 1) (t .waiters)
     taken-branch =
         let e : waiting ≡ suc (waiting - 1) = omega arith in
-        waits-less places (t .asked .wired .deep) pending (leftLow places (p + 1) seen) (waiting - 1) (t .waiters)
-        (subst (λ (n : ℕ). Waits places (t .asked .wired .deep) pending (leftLow places (p + 1) seen) n (t .waiters)) e (t .waits))
+        waits-less places (t .asked .wired .deep) pending (lackingLow places (p + 1) seen) (waiting - 1) (t .waiters)
+        (subst (λ (n : ℕ). Waits places (t .asked .wired .deep) pending (lackingLow places (p + 1) seen) n (t .waiters)) e (t .waits))
 
     -- there are at most two for each place, and so their numbers are inside
     pub turn-branch : 22 * (waiting - 1) + 22 ≤ length pending
@@ -238,7 +241,7 @@ module _ {code pattern : List ℕ} {there : Bool} {byte places p : ℕ} {seen₀
           fewer = t .fewer;
           unwon = t .unwon;
           waits = b .waits;
-          bounded = λ e. subst (λ (y : ℕ). waiting - 1 + leftLow places (p + 1) seen ≤ places + reach (b .thread .level) y) (sym place-is) (w .bounded);
+          bounded = λ e. subst (λ (y : ℕ). waiting - 1 + lackingLow places (p + 1) seen ≤ places + reach (b .thread .level) y) (sym place-is) (w .bounded);
           stands = λ line along k s sh h.
               let final = visit k (decode code pattern places) line p (at x₀ 0 rows₀) s in
               subst₂ (λ (y : ℕ) (r : Rows). Stands code pattern line places p seen taken list count steps goes done (at y (b .thread .level) r ∷ b .others) final)
@@ -275,7 +278,7 @@ module _ {code pattern : List ℕ} {there : Bool} {byte places p : ℕ} {seen₀
         → Turn code pattern there byte places p seen₀ taken₀ list₀ pending₀ x₀ rows₀ count₀ steps₀ seen′ taken list pending x floor rows count steps waiting false goes done
     turn-seen e =
         let same : seen′ ≡ seen = same-seen e in
-        let amount : left (p + 1) seen′ ≡ left (p + 1) seen = ap (left (p + 1)) same in
+        let amount : lacking (p + 1) seen′ ≡ lacking (p + 1) seen = ap (lacking (p + 1)) same in
         record {
           asked = t .asked;
           level = t .level;
@@ -293,7 +296,7 @@ module _ {code pattern : List ℕ} {there : Bool} {byte places p : ℕ} {seen₀
           each = omega (arith, t .each);
           fewer = omega (arith, t .fewer);
           unwon = t .unwon;
-          waits = subst (λ (table : List ℕ). Waits places (t .asked .wired .deep) pending (leftLow places (p + 1) table) waiting (t .waiters)) (sym same) (t .waits);
+          waits = subst (λ (table : List ℕ). Waits places (t .asked .wired .deep) pending (lackingLow places (p + 1) table) waiting (t .waiters)) (sym same) (t .waits);
           bounded = λ f. never f;
           stands = λ line along k s sh h.
               let final = visit k (decode code pattern places) line p (at x₀ 0 rows₀) s in
@@ -305,7 +308,7 @@ module _ {code pattern : List ℕ} {there : Bool} {byte places p : ℕ} {seen₀
 
     pub less-seen : fresh ≡ false → turns p seen′ waiting false goes < turns p seen waiting alive goes
     less-seen e =
-        let amount : left (p + 1) seen′ ≡ left (p + 1) seen = ap (left (p + 1)) (same-seen e) in
+        let amount : lacking (p + 1) seen′ ≡ lacking (p + 1) seen = ap (lacking (p + 1)) (same-seen e) in
         let one : _≡_ {A = ℕ} (cond alive 1 0) 1 = ap (λ (a : Bool). cond a 1 0) lives in
         omega arith
 
@@ -314,54 +317,54 @@ module _ {code pattern : List ℕ} {there : Bool} {byte places p : ℕ} {seen₀
       unstamped = not-true (eqb (getD seen (floor + x) 0) (p + 1)) (sym (was .0) ∙ new)
 
       -- one entry less without the stamp
-      pub marked-left : suc (left (p + 1) seen′) ≡ left (p + 1) seen
-      marked-left = ap (λ (table : List ℕ). suc (left (p + 1) table)) (was .1) ∙ left-mark (p + 1) seen (floor + x) turn-cell unstamped
+      pub marked-lacking : suc (lacking (p + 1) seen′) ≡ lacking (p + 1) seen
+      marked-lacking = ap (λ (table : List ℕ). suc (lacking (p + 1) table)) (was .1) ∙ lacking-mark (p + 1) seen (floor + x) turn-cell unstamped
 
       -- on level 0 also among the first
-      low-less : t .level ≡ 0 → suc (leftLow places (p + 1) seen′) ≡ leftLow places (p + 1) seen
+      low-less : t .level ≡ 0 → suc (lackingLow places (p + 1) seen′) ≡ lackingLow places (p + 1) seen
       low-less e =
           let none : floor ≡ 0 = t .floor-is ∙ (ap (λ (l : ℕ). l * places) e ∙ zero-mul places) in
-          ap (λ (table : List ℕ). suc (leftLow places (p + 1) table)) (was .1)
+          ap (λ (table : List ℕ). suc (lackingLow places (p + 1) table)) (was .1)
           ∙ low-mark places (p + 1) seen (floor + x) (omega (arith, t .inside)) turn-cell unstamped
 
       -- and above it not
-      low-same : (l : ℕ) → t .level ≡ suc l → leftLow places (p + 1) seen′ ≡ leftLow places (p + 1) seen
+      low-same : (l : ℕ) → t .level ≡ suc l → lackingLow places (p + 1) seen′ ≡ lackingLow places (p + 1) seen
       low-same l e =
           let high : floor ≡ suc l * places = t .floor-is ∙ ap (λ (m : ℕ). m * places) e in
-          ap (leftLow places (p + 1)) (was .1) ∙ low-other places (p + 1) seen (floor + x) (omega (arith, suc-mul l places))
+          ap (lackingLow places (p + 1)) (was .1) ∙ low-other places (p + 1) seen (floor + x) (omega (arith, suc-mul l places))
 
       -- what the bound becomes: a step on level 0 makes room for one branch, and a step above it leads ahead
-      bounded-on : (l y : ℕ) → t .level ≡ l → x < y → suc (waiting + leftLow places (p + 1) seen′) ≤ places + reach l y
+      bounded-on : (l y : ℕ) → t .level ≡ l → x < y → suc (waiting + lackingLow places (p + 1) seen′) ≤ places + reach l y
       bounded-on zero y e h =
-          let was-bounded : waiting + leftLow places (p + 1) seen ≤ places + reach 0 x =
-          subst (λ (l : ℕ). waiting + leftLow places (p + 1) seen ≤ places + reach l x) e (t .bounded lives) in
+          let was-bounded : waiting + lackingLow places (p + 1) seen ≤ places + reach 0 x =
+          subst (λ (l : ℕ). waiting + lackingLow places (p + 1) seen ≤ places + reach l x) e (t .bounded lives) in
           omega (arith, low-less e)
       bounded-on (suc l) y e h =
-          let was-bounded : waiting + leftLow places (p + 1) seen ≤ places + reach (suc l) x =
-          subst (λ (l : ℕ). waiting + leftLow places (p + 1) seen ≤ places + reach l x) e (t .bounded lives) in
+          let was-bounded : waiting + lackingLow places (p + 1) seen ≤ places + reach (suc l) x =
+          subst (λ (l : ℕ). waiting + lackingLow places (p + 1) seen ≤ places + reach l x) e (t .bounded lives) in
           omega (arith, low-same l e, reach-high l x, reach-high l y)
 
-      low-fewer : leftLow places (p + 1) seen′ ≤ leftLow places (p + 1) seen
+      low-fewer : lackingLow places (p + 1) seen′ ≤ lackingLow places (p + 1) seen
       low-fewer = look (t .level) refl
         where
-          look : (l : ℕ) → t .level ≡ l → leftLow places (p + 1) seen′ ≤ leftLow places (p + 1) seen
+          look : (l : ℕ) → t .level ≡ l → lackingLow places (p + 1) seen′ ≤ lackingLow places (p + 1) seen
           look zero e = omega (arith, low-less e)
           look (suc l) e = omega (arith, low-same l e)
 
-      waits-on : Waits places (t .asked .wired .deep) pending (leftLow places (p + 1) seen′) waiting (t .waiters)
+      waits-on : Waits places (t .asked .wired .deep) pending (lackingLow places (p + 1) seen′) waiting (t .waiters)
       waits-on =
-          waits-fewer places (t .asked .wired .deep) pending (leftLow places (p + 1) seen) (leftLow places (p + 1) seen′) waiting (t .waiters) low-fewer (t .waits)
+          waits-fewer places (t .asked .wired .deep) pending (lackingLow places (p + 1) seen) (lackingLow places (p + 1) seen′) waiting (t .waiters) low-fewer (t .waits)
 
       -- a step more can be counted
       pub turn-countable : steps + 1 < 2 ^ 32
-      turn-countable = omega (arith, marked-left, t .each, t .asked .countable)
+      turn-countable = omega (arith, marked-lacking, t .each, t .asked .countable)
 
       -- the loop gets shorter, if at most one branch more waits
       pub less-new : (waiting′ : ℕ) (alive′ goes′ : Bool) → waiting′ ≤ waiting + 1 → turns p seen′ waiting′ alive′ goes′ < turns p seen waiting alive goes
       less-new waiting′ alive′ goes′ h =
           let one : _≡_ {A = ℕ} (cond goes 1 0) 1 = ap (λ (g : Bool). cond g 1 0) go in
           let first : _≡_ {A = ℕ} (cond alive 1 0) 1 = ap (λ (a : Bool). cond a 1 0) lives in
-          omega (arith, marked-left, at-most-one alive′, at-most-one goes′)
+          omega (arith, marked-lacking, at-most-one alive′, at-most-one goes′)
 
       module _ (kind next a n : ℕ) (read : Reads code x kind next a n) where
         next-inside : kind < 8 → next < places
@@ -374,7 +377,7 @@ module _ {code pattern : List ℕ} {there : Bool} {byte places p : ℕ} {seen₀
         pub lead-slots : Slots kind a n
         lead-slots =
             subst (λ (k : ℕ). Slots k a n) (sym (read .0))
-            (subst₂ (λ (b m : ℕ). Slots (kindAt code x) b m) (sym (read .2)) (sym (read .3)) (t .asked .wired .slots x (t .inside)))
+            (subst₂ (λ (b m : ℕ). Slots (placeKindAt code x) b m) (sym (read .2)) (sym (read .3)) (t .asked .wired .slots x (t .inside)))
 
         -- a floor of 0 is that of level 0
         level-zero : (l : ℕ) → t .level ≡ l → floor ≡ 0 → t .level ≡ 0
@@ -385,25 +388,25 @@ module _ {code pattern : List ℕ} {there : Bool} {byte places p : ℕ} {seen₀
 
         -- where a place leads on, the bound holds again
         bounded-lead : 0 < kind → kind < 6 → (goes′ : Bool) (floor′ : ℕ) (rows′ : Rows) → Leads kind a n p places floor rows goes′ floor′ rows′ → goes′ ≡ true
-            → waiting + leftLow places (p + 1) seen′ ≤ places + reach (levelAfter kind (t .level)) next
+            → waiting + lackingLow places (p + 1) seen′ ≤ places + reach (levelAfter kind (t .level)) next
         bounded-lead lo hi goes′ floor′ rows′ made ongoing = five (ℕ-discrete kind 5)
           where
-            four : (kind ≡ 5 → ⊥) → Dec (kind ≡ 4) → waiting + leftLow places (p + 1) seen′ ≤ places + reach (levelAfter kind (t .level)) next
+            four : (kind ≡ 5 → ⊥) → Dec (kind ≡ 4) → waiting + lackingLow places (p + 1) seen′ ≤ places + reach (levelAfter kind (t .level)) next
             four n5 (yes e) =
                 let after : levelAfter kind (t .level) ≡ suc (t .level) = ap (λ (k : ℕ). levelAfter k (t .level)) e ∙ omega arith in
-                subst (λ (l : ℕ). waiting + leftLow places (p + 1) seen′ ≤ places + reach l next) (sym after)
+                subst (λ (l : ℕ). waiting + lackingLow places (p + 1) seen′ ≤ places + reach l next) (sym after)
                 (omega (arith, bounded-on (t .level) next refl (next-ahead (omega arith)), reach-most (t .level) next, reach-high (t .level) next))
             four n5 (no n4) =
                 let after : levelAfter kind (t .level) ≡ t .level =
                 ap (λ (b : Bool). cond b 0 (cond (eqb kind 4) (t .level + 1) (t .level))) (ne-eqb kind 5 n5)
                 ∙ ap (λ (b : Bool). cond b (t .level + 1) (t .level)) (ne-eqb kind 4 n4) in
-                subst (λ (l : ℕ). waiting + leftLow places (p + 1) seen′ ≤ places + reach l next) (sym after)
+                subst (λ (l : ℕ). waiting + lackingLow places (p + 1) seen′ ≤ places + reach l next) (sym after)
                 (omega (arith, bounded-on (t .level) next refl (next-ahead (omega arith))))
 
-            five : Dec (kind ≡ 5) → waiting + leftLow places (p + 1) seen′ ≤ places + reach (levelAfter kind (t .level)) next
+            five : Dec (kind ≡ 5) → waiting + lackingLow places (p + 1) seen′ ≤ places + reach (levelAfter kind (t .level)) next
             five (yes e) =
                 let bottom : t .level ≡ 0 = level-zero (t .level) refl (made .ends e ongoing) in
-                subst (λ (k : ℕ). waiting + leftLow places (p + 1) seen′ ≤ places + reach (levelAfter k (t .level)) next) (sym e)
+                subst (λ (k : ℕ). waiting + lackingLow places (p + 1) seen′ ≤ places + reach (levelAfter k (t .level)) next) (sym e)
                 (omega (arith, bounded-on 0 (suc x) bottom (omega arith)))
             five (no n5) = four n5 (ℕ-discrete kind 4)
 
@@ -426,8 +429,8 @@ module _ {code pattern : List ℕ} {there : Bool} {byte places p : ℕ} {seen₀
           pending-long = t .pending-long;
           under = marked-under;
           carried = t .carried;
-          each = omega (arith, marked-left, t .each);
-          fewer = omega (arith, marked-left, t .fewer);
+          each = omega (arith, marked-lacking, t .each);
+          fewer = omega (arith, marked-lacking, t .fewer);
           unwon = t .unwon;
           waits = waits-on;
           bounded = bounded-lead lo hi goes′ floor′ rows′ made;
@@ -468,8 +471,8 @@ module _ {code pattern : List ℕ} {there : Bool} {byte places p : ℕ} {seen₀
           pending-long = t .pending-long;
           under = marked-under;
           carried = subst (λ (m : ℕ). Carried m (p + 1) taken′ list′ count′) (t .carried .taken-long) (made .carried);
-          each = omega (arith, marked-left, t .each);
-          fewer = omega (arith, marked-left, t .fewer);
+          each = omega (arith, marked-lacking, t .each);
+          fewer = omega (arith, marked-lacking, t .fewer);
           unwon = not-true done′;
           waits = waits-on;
           bounded = λ f. never f;
@@ -519,18 +522,21 @@ module _ {code pattern : List ℕ} {there : Bool} {byte places p : ℕ} {seen₀
                 pending-long = ap length same ∙ (waited-long pending waiting floor a rows (t .rows-long) (fork-asked .0) ∙ t .pending-long);
                 under = marked-under;
                 carried = t .carried;
-                each = omega (arith, marked-left, t .each);
-                fewer = omega (arith, marked-left, t .fewer);
+                each = omega (arith, marked-lacking, t .each);
+                fewer = omega (arith, marked-lacking, t .fewer);
                 unwon = t .unwon;
                 waits =
-                    subst₂ (λ (m : List ℕ) (n : ℕ). Waits places (t .asked .wired .deep) m (leftLow places (p + 1) seen′) n (at a (t .level) rows ∷ t .waiters)) (sym same) one-more
-                    (waits-more pending waiting floor a rows (t .rows-long) (fork-asked .0) places (t .asked .wired .deep) (leftLow places (p + 1) seen) (leftLow places (p + 1) seen′)
+                    subst₂ (λ (m : List ℕ) (n : ℕ). Waits places (t .asked .wired .deep) m (lackingLow places (p + 1) seen′) n (at a (t .level) rows ∷ t .waiters))
+                    (sym same) one-more
+                    (waits-more pending waiting floor a rows (t .rows-long) (fork-asked .0) places (t .asked .wired .deep)
+                    (lackingLow places (p + 1) seen) (lackingLow places (p + 1) seen′)
                     (t .level) (t .waiters) low-fewer (t .floor-is) other-inside deep-other (omega (arith, bounded-on (t .level) a refl other-ahead)) (t .waits));
                 bounded = λ e. omega (arith, bounded-on (t .level) next refl (next-ahead (omega arith)));
                 stands = λ line along k s sh h.
                     let final = visit k (decode code pattern places) line p (at x₀ 0 rows₀) s in
                     let ts = at next (t .level) rows ∷ at a (t .level) rows ∷ t .waiters in
-                    subst (λ (b : Bool). Stands code pattern line places p seen′ taken list count (steps + 1) goes done (cond b ts (at a (t .level) rows ∷ t .waiters)) final) (sym lives)
+                    subst (λ (b : Bool). Stands code pattern line places p seen′ taken list count (steps + 1) goes done (cond b ts (at a (t .level) rows ∷ t .waiters)) final)
+                    (sym lives)
                     (subst₂ (λ (g d : Bool). Stands code pattern line places p seen′ taken list count (steps + 1) g d ts final) (sym go) (sym (t .unwon go))
                     (subst (λ (table : List ℕ). Stands code pattern line places p table taken list count (steps + 1) true false ts final) (sym (cell .1))
                     (stands-fork code pattern line places p seen taken list count steps x (t .level) rows (t .waiters) final (t .inside) room fresh (cell .0)

@@ -13,10 +13,10 @@ use Rattle.paper.specs.Rows.{Rows}
 use Rattle.paper.specs.Machine.{Place, Thread, at, State, isSeen, isWon, mark, follow, arrive, visit, moveAt}
 use Rattle.paper.specs.Tables.{decode, placeAt, placeOf}
 use Rattle.paper.proofs.machine.Once.{visit-blocked}
-use Rattle.threads.specs.Threads.{left, rowsIn}
+use Rattle.threads.specs.Threads.{lacking, rowsIn}
 use Rattle.moves.specs.Shows.{AheadIn, Shows}
-use Rattle.moves.specs.Moves.{kindAt, nextAt, firstAt, manyAt, levelAfter, Leads, Settles}
-use Rattle.threads.proofs.Stamps.{left-mark, mark-same}
+use Rattle.moves.specs.Moves.{placeKindAt, placeNextAt, placeFirstAt, placeManyAt, levelAfter, Leads, Settles}
+use Rattle.threads.proofs.Stamps.{lacking-mark, mark-same}
 use Rattle.visit.proofs.Cells.{decode-at, blocked-shown, shows-mark}
 
 -- ---- what is left of a visit
@@ -61,26 +61,26 @@ module _ (code : List Place) (line : List ℕ) (p : ℕ) where
 pub record Stands (code pattern line : List ℕ) (places p : ℕ) (seen taken list : List ℕ) (count steps : ℕ) (goes done : Bool) (ts : List Thread) (final : State) : Type 0 where
   pub state : State
   pub shows : Shows places (p + 1) seen taken list count steps done state
-  pub rest : Remains goes (decode code pattern places) line p (left (p + 1) seen) ts state final
+  pub rest : Remains goes (decode code pattern places) line p (lacking (p + 1) seen) ts state final
 
 -- the same after a new pair was marked, before its move is followed
 record Marked (code pattern line : List ℕ) (places p : ℕ) (seen taken list : List ℕ) (count steps x l : ℕ) (rows : Rows) (ts : List Thread) (final : State) : Type 0 where
   fuel : ℕ
   state : State
   shows : Shows places (p + 1) (set seen (l * places + x) (p + 1)) taken list count (steps + 1) false state
-  enough : left (p + 1) (set seen (l * places + x) (p + 1)) < fuel
-  rest : Unwinds (decode code pattern places) line p (left (p + 1) (set seen (l * places + x) (p + 1))) ts
+  enough : lacking (p + 1) (set seen (l * places + x) (p + 1)) < fuel
+  rest : Unwinds (decode code pattern places) line p (lacking (p + 1) (set seen (l * places + x) (p + 1))) ts
       (follow (visit fuel (decode code pattern places) line p) (at x l rows) (moveAt (placeAt code pattern x) line p l rows) state) final
 
 -- the four numbers of a place, as they were read
 abbrev pub Reads : List ℕ → ℕ → ℕ → ℕ → ℕ → ℕ → Type 0
-Reads code x kind next a n = (kind ≡ kindAt code x) × (next ≡ nextAt code x) × (a ≡ firstAt code x) × (n ≡ manyAt code x)
+Reads code x kind next a n = (kind ≡ placeKindAt code x) × (next ≡ placeNextAt code x) × (a ≡ placeFirstAt code x) × (n ≡ placeManyAt code x)
 
 read-place : (code pattern : List ℕ) (x kind next a n : ℕ) → Reads code x kind next a n → placeAt code pattern x ≡ placeOf pattern kind next a n
 read-place code pattern x kind next a n r =
-    ap (λ (k : ℕ). placeOf pattern k (nextAt code x) (firstAt code x) (manyAt code x)) (sym (r .0))
-    ∙ (ap (λ (k : ℕ). placeOf pattern kind k (firstAt code x) (manyAt code x)) (sym (r .1))
-    ∙ (ap (λ (k : ℕ). placeOf pattern kind next k (manyAt code x)) (sym (r .2)) ∙ ap (λ (k : ℕ). placeOf pattern kind next a k) (sym (r .3))))
+    ap (λ (k : ℕ). placeOf pattern k (placeNextAt code x) (placeFirstAt code x) (placeManyAt code x)) (sym (r .0))
+    ∙ (ap (λ (k : ℕ). placeOf pattern kind k (placeFirstAt code x) (placeManyAt code x)) (sym (r .1))
+    ∙ (ap (λ (k : ℕ). placeOf pattern kind next k (placeManyAt code x)) (sym (r .2)) ∙ ap (λ (k : ℕ). placeOf pattern kind next a k) (sym (r .3))))
 
 module _ (code pattern line : List ℕ) (places p : ℕ) (seen taken list : List ℕ) (count steps x l : ℕ) (rows : Rows) (ts : List Thread) (final : State)
     (inside : x < places) (room : l * places + x < length seen) (fresh : Bool) (was : fresh ≡ not (eqb (getD seen (l * places + x) 0) (p + 1)))
@@ -95,7 +95,7 @@ module _ (code pattern line : List ℕ) (places p : ℕ) (seen taken list : List
         state = s .state;
         shows = s .shows;
         rest =
-            subst (λ (after : State). Unwinds (decode code pattern places) line p (left (p + 1) seen) ts after final)
+            subst (λ (after : State). Unwinds (decode code pattern places) line p (lacking (p + 1) seen) ts after final)
             (visit-blocked (decode code pattern places) line p (s .rest .0) (at x l rows) (s .state)
             (blocked-shown places (p + 1) seen taken list count steps (s .state) (s .shows) x l rows inside ∙ stamped))
             (s .rest .2);
@@ -108,11 +108,11 @@ module _ (code pattern line : List ℕ) (places p : ℕ) (seen taken list : List
       unstamped : eqb (getD seen (l * places + x) 0) (p + 1) ≡ false
       unstamped = not-true (eqb (getD seen (l * places + x) 0) (p + 1)) (sym was ∙ e)
 
-      one-less : suc (left (p + 1) (set seen (l * places + x) (p + 1))) ≡ left (p + 1) seen
-      one-less = left-mark (p + 1) seen (l * places + x) room unstamped
+      one-less : suc (lacking (p + 1) (set seen (l * places + x) (p + 1))) ≡ lacking (p + 1) seen
+      one-less = lacking-mark (p + 1) seen (l * places + x) room unstamped
 
-      look : (k : ℕ) → left (p + 1) seen < k
-          → Unwinds (decode code pattern places) line p (left (p + 1) seen) ts (visit k (decode code pattern places) line p (at x l rows) (s .state)) final
+      look : (k : ℕ) → lacking (p + 1) seen < k
+          → Unwinds (decode code pattern places) line p (lacking (p + 1) seen) ts (visit k (decode code pattern places) line p (at x l rows) (s .state)) final
           → Marked code pattern line places p seen taken list count steps x l rows ts final
       look zero h r = absurd (omega arith)
       look (suc k) h r = record {
@@ -121,9 +121,9 @@ module _ (code pattern line : List ℕ) (places p : ℕ) (seen taken list : List
         shows = shows-mark places (p + 1) seen taken list count steps (s .state) (s .shows) x l rows inside room;
         enough = omega (arith, one-less);
         rest =
-            unwinds-fewer (decode code pattern places) line p (left (p + 1) seen) (left (p + 1) (set seen (l * places + x) (p + 1))) (omega (arith, one-less)) ts
+            unwinds-fewer (decode code pattern places) line p (lacking (p + 1) seen) (lacking (p + 1) (set seen (l * places + x) (p + 1))) (omega (arith, one-less)) ts
             (follow (visit k (decode code pattern places) line p) (at x l rows) (moveAt (placeAt code pattern x) line p l rows) (mark (at x l rows) (s .state))) final
-            (subst (λ (after : State). Unwinds (decode code pattern places) line p (left (p + 1) seen) ts after final)
+            (subst (λ (after : State). Unwinds (decode code pattern places) line p (lacking (p + 1) seen) ts after final)
             (ap (λ (b : Bool). arrive (visit k (decode code pattern places) line p) (decode code pattern places) line p b (at x l rows) (s .state))
             (blocked-shown places (p + 1) seen taken list count steps (s .state) (s .shows) x l rows inside ∙ unstamped)
             ∙ ap (λ (place : Place). follow (visit k (decode code pattern places) line p) (at x l rows) (moveAt place line p l rows) (mark (at x l rows) (s .state)))
@@ -135,9 +135,9 @@ module _ (code pattern line : List ℕ) (places p : ℕ) (seen taken list : List
     -- the new pair's move, by the numbers that were read, is known to lead to a state
     followed : (m : Marked code pattern line places p seen taken list count steps x l rows ts final) (after : State)
         → follow (visit (m .fuel) (decode code pattern places) line p) (at x l rows) (moveAt (placeOf pattern kind next a n) line p l rows) (m .state) ≡ after
-        → Unwinds (decode code pattern places) line p (left (p + 1) (set seen (l * places + x) (p + 1))) ts after final
+        → Unwinds (decode code pattern places) line p (lacking (p + 1) (set seen (l * places + x) (p + 1))) ts after final
     followed m after e =
-        subst (λ (st : State). Unwinds (decode code pattern places) line p (left (p + 1) (set seen (l * places + x) (p + 1))) ts st final)
+        subst (λ (st : State). Unwinds (decode code pattern places) line p (lacking (p + 1) (set seen (l * places + x) (p + 1))) ts st final)
         (ap (λ (place : Place). follow (visit (m .fuel) (decode code pattern places) line p) (at x l rows) (moveAt place line p l rows) (m .state))
         (read-place code pattern x kind next a n read) ∙ e)
         (m .rest)
@@ -153,7 +153,7 @@ module _ (code pattern line : List ℕ) (places p : ℕ) (seen taken list : List
           state = m .state;
           shows = m .shows;
           rest =
-              unwinds-lead (decode code pattern places) line p goes (left (p + 1) (set seen (l * places + x) (p + 1))) (m .fuel) (m .enough) t ts (m .state) final
+              unwinds-lead (decode code pattern places) line p goes (lacking (p + 1) (set seen (l * places + x) (p + 1))) (m .fuel) (m .enough) t ts (m .state) final
               (followed m (cond goes (visit (m .fuel) (decode code pattern places) line p t (m .state)) (m .state))
               (made .follows l low pattern line next x (visit (m .fuel) (decode code pattern places) line p) (m .state)));
         }
@@ -170,7 +170,7 @@ module _ (code pattern line : List ℕ) (places p : ℕ) (seen taken list : List
           state = after;
           shows = shown;
           rest =
-              unwinds-settle (decode code pattern places) line p done (left (p + 1) (set seen (l * places + x) (p + 1))) ts after final (rowsIn list′ count′)
+              unwinds-settle (decode code pattern places) line p done (lacking (p + 1) (set seen (l * places + x) (p + 1))) ts after final (rowsIn list′ count′)
               (shown .winner) (followed m after refl);
         }
 

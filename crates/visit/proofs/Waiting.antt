@@ -10,29 +10,29 @@ use lib.ListN.{length, getD, set, take, length-set, length-take}
 use lib.Seq.{getD-set-same, getD-set-other, take-set-lt, take-set-le, getD-take}
 use Rattle.paper.specs.Rows.{Rows}
 use Rattle.paper.specs.Machine.{Thread, at}
-use Rattle.threads.specs.Threads.{left, rowsFrom, waited}
-use Rattle.threads.proofs.Stamps.{left-all, left-mark}
+use Rattle.threads.specs.Threads.{lacking, rowsFrom, waited}
+use Rattle.threads.proofs.Stamps.{lacking-all, lacking-mark}
 use Rattle.threads.proofs.Stores.{stored-long, stored-before, stored-place, stored-rows, same-part}
 
 -- ---- the pairs on level 0 that are not seen
 
 -- how many of the first entries of a table do not have this stamp
-abbrev pub leftLow : ℕ → ℕ → List ℕ → ℕ
-leftLow n stamp table = left stamp (take n table)
+abbrev pub lackingLow : ℕ → ℕ → List ℕ → ℕ
+lackingLow n stamp table = lacking stamp (take n table)
 
-pub low-most : (n stamp : ℕ) (xs : List ℕ) → leftLow n stamp xs ≤ n
-low-most n stamp xs = omega (arith, left-all stamp (take n xs), length-take n xs)
+pub low-most : (n stamp : ℕ) (xs : List ℕ) → lackingLow n stamp xs ≤ n
+low-most n stamp xs = omega (arith, lacking-all stamp (take n xs), length-take n xs)
 
 -- one of them that gets the stamp is one less
 pub low-mark : (n stamp : ℕ) (xs : List ℕ) (i : ℕ) → i < n → i < length xs → eqb (getD xs i 0) stamp ≡ false
-    → suc (leftLow n stamp (set xs i stamp)) ≡ leftLow n stamp xs
+    → suc (lackingLow n stamp (set xs i stamp)) ≡ lackingLow n stamp xs
 low-mark n stamp xs i low h e =
-    ap (λ (l : List ℕ). suc (left stamp l)) (take-set-lt n xs i stamp low)
-    ∙ left-mark stamp (take n xs) i (omega (arith, length-take n xs)) (ap (λ (x : ℕ). eqb x stamp) (getD-take n xs i 0 low) ∙ e)
+    ap (λ (l : List ℕ). suc (lacking stamp l)) (take-set-lt n xs i stamp low)
+    ∙ lacking-mark stamp (take n xs) i (omega (arith, length-take n xs)) (ap (λ (x : ℕ). eqb x stamp) (getD-take n xs i 0 low) ∙ e)
 
 -- an entry behind them changes nothing
-pub low-other : (n stamp : ℕ) (xs : List ℕ) (i : ℕ) → n ≤ i → leftLow n stamp (set xs i stamp) ≡ leftLow n stamp xs
-low-other n stamp xs i h = ap (left stamp) (take-set-le n xs i stamp h)
+pub low-other : (n stamp : ℕ) (xs : List ℕ) (i : ℕ) → n ≤ i → lackingLow n stamp (set xs i stamp) ≡ lackingLow n stamp xs
+low-other n stamp xs i h = ap (lacking stamp) (take-set-le n xs i stamp h)
 
 -- ---- the branches in their memory
 

@@ -8,7 +8,7 @@ use Rattle.paper.specs.Limits.{absent}
 use Rattle.paper.specs.Rows.{Rows}
 use Rattle.paper.specs.Machine.{State, visit, at}
 use Rattle.paper.specs.Tables.{decode}
-use Rattle.threads.specs.Threads.{branchNumbers, left, Under}
+use Rattle.threads.specs.Threads.{branchNumbers, lacking, Under}
 use Rattle.moves.specs.Shows.{Shows, Carried}
 use Rattle.visit.specs.Wired.{Wired}
 
@@ -21,7 +21,7 @@ pub record Arrives (code pattern : List ℕ) (places p place : ℕ) (seen taken 
   pub under : Under (p + 1) seen
   pub carried : Carried places (p + 1) taken list count
   pub pending-long : branchNumbers * (2 * places) ≤ length pending
-  pub countable : steps + left (p + 1) seen < 2 ^ 32
+  pub countable : steps + lacking (p + 1) seen < 2 ^ 32
 
 -- what a visit of a thread on level 0 promises. Of every state that the tables show at entry, without a winner, they show at exit the state after the definition's visit,
 -- if its bound is above the number of pairs not seen. Each step is one such pair
@@ -29,7 +29,7 @@ pub record Visits (code pattern line : List ℕ) (places p place : ℕ) (rows : 
     (seen′ taken′ list′ : List ℕ) (count′ steps′ : ℕ) (done : Bool) : Type 0 where
   pub under : Under (p + 1) seen′
   pub carried : Carried places (p + 1) taken′ list′ count′
-  pub each : steps′ + left (p + 1) seen′ ≡ steps + left (p + 1) seen
-  pub fewer : left (p + 1) seen′ ≤ left (p + 1) seen
-  pub shows : (k : ℕ) (s : State) → Shows places (p + 1) seen taken list count steps false s → left (p + 1) seen < k
+  pub each : steps′ + lacking (p + 1) seen′ ≡ steps + lacking (p + 1) seen
+  pub fewer : lacking (p + 1) seen′ ≤ lacking (p + 1) seen
+  pub shows : (k : ℕ) (s : State) → Shows places (p + 1) seen taken list count steps false s → lacking (p + 1) seen < k
       → Shows places (p + 1) seen′ taken′ list′ count′ steps′ done (visit k (decode code pattern places) line p (at place 0 rows) s)

@@ -4,7 +4,7 @@ use Prim.Native.Nat.{ℕ, _+_, _*_, _≤_, _<_, _^_}
 use mathlib.Core.Path.{_≡_}
 use mathlib.Core.List.{List}
 use lib.ListN.{length}
-use Rattle.moves.specs.Moves.{Slots, kindAt, nextAt, firstAt, manyAt}
+use Rattle.moves.specs.Moves.{Slots, placeKindAt, placeNextAt, placeFirstAt, placeManyAt}
 use Rattle.paper.specs.Tables.{forkPlace, beginOptionalPlace, endPlace, setPlace, stopPlace, placeNumbers}
 
 -- a table of `places` places, for a pattern, that is safe to run with `cells` entries for the pairs. Only an end can lead back.
@@ -14,12 +14,12 @@ pub record Wired (code pattern : List ℕ) (places cells : ℕ) : Type 0 where
   pub few : places < 2 ^ 16
   pub long : placeNumbers * places ≤ length code
   pub room : (x : ℕ) → x < places → deep x * places + x < cells
-  pub follows : (x : ℕ) → x < places → kindAt code x < stopPlace → nextAt code x < places
-  pub forks : (x : ℕ) → x < places → kindAt code x ≡ forkPlace → firstAt code x < places
-  pub deeper : (x : ℕ) → x < places → kindAt code x < beginOptionalPlace → deep x ≤ deep (nextAt code x)
-  pub deeper-other : (x : ℕ) → x < places → kindAt code x ≡ forkPlace → deep x ≤ deep (firstAt code x)
-  pub raised : (x : ℕ) → x < places → kindAt code x ≡ beginOptionalPlace → deep x + 1 ≤ deep (nextAt code x)
-  pub ahead : (x : ℕ) → x < places → kindAt code x < endPlace → x < nextAt code x
-  pub ahead-other : (x : ℕ) → x < places → kindAt code x ≡ forkPlace → x < firstAt code x
-  pub slots : (x : ℕ) → x < places → Slots (kindAt code x) (firstAt code x) (manyAt code x)
-  pub ranges : (x : ℕ) → x < places → kindAt code x ≡ setPlace → firstAt code x + 2 * manyAt code x ≤ length pattern
+  pub follows : (x : ℕ) → x < places → placeKindAt code x < stopPlace → placeNextAt code x < places
+  pub forks : (x : ℕ) → x < places → placeKindAt code x ≡ forkPlace → placeFirstAt code x < places
+  pub deeper : (x : ℕ) → x < places → placeKindAt code x < beginOptionalPlace → deep x ≤ deep (placeNextAt code x)
+  pub deeper-other : (x : ℕ) → x < places → placeKindAt code x ≡ forkPlace → deep x ≤ deep (placeFirstAt code x)
+  pub raised : (x : ℕ) → x < places → placeKindAt code x ≡ beginOptionalPlace → deep x + 1 ≤ deep (placeNextAt code x)
+  pub ahead : (x : ℕ) → x < places → placeKindAt code x < endPlace → x < placeNextAt code x
+  pub ahead-other : (x : ℕ) → x < places → placeKindAt code x ≡ forkPlace → x < placeFirstAt code x
+  pub slots : (x : ℕ) → x < places → Slots (placeKindAt code x) (placeFirstAt code x) (placeManyAt code x)
+  pub ranges : (x : ℕ) → x < places → placeKindAt code x ≡ setPlace → placeFirstAt code x + 2 * placeManyAt code x ≤ length pattern

@@ -28,16 +28,16 @@ pub fn visit(
     start: usize,
     groups: [u16; Spans::NUMBERS],
     carried: usize,
-    before: u32,
+    made: u32,
 ) -> Visited
-    requires { ⌜ Arrives (now code) (now pattern) places at start (now seen) (now taken) (now list) (now pending) carried before ⌝ }
-    ensures { λ r. ⌜ ((line : List ℕ) → AheadIn line at (ahead .there) (ahead .byte) → Visits (now (code .entry)) (now (pattern .entry)) line places at start groups (now (seen .entry)) (now (taken .entry)) (now (list .entry)) carried before (now (seen .exit)) (now (taken .exit)) (now (list .exit)) (r .count) (r .steps) (r .done)) ⌝ }
+    requires { ⌜ Arrives (now code) (now pattern) places at start (now seen) (now taken) (now list) (now pending) carried made ⌝ }
+    ensures { λ r. ⌜ ((line : List ℕ) → AheadIn line at (ahead .there) (ahead .byte) → Visits (now (code .entry)) (now (pattern .entry)) line places at start groups (now (seen .entry)) (now (taken .entry)) (now (list .entry)) carried made (now (seen .exit)) (now (taken .exit)) (now (list .exit)) (r .count) (r .steps) (r .done)) ⌝ }
 {
     let mut place = start;
     let mut floor = 0;
     let mut rows = groups;
     let mut count = carried;
-    let mut steps = before;
+    let mut steps = made;
     let mut waiting = 0;
     let mut alive = true;
     let mut goes = true;

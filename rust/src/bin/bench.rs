@@ -14,8 +14,10 @@ use std::hint::black_box;
 use std::process::ExitCode;
 use tojalinda::{calls, raw, Mode, Pattern, Tree};
 
-/// How often each of the two is measured.
+/// How often each of the two is measured at the most.
 const TURNS: usize = 41;
+/// After how many nanoseconds no other turn begins, so that slow calls are measured less often.
+const ENOUGH: f64 = 2e9;
 /// How long one measurement takes, in nanoseconds.
 const TURN: f64 = 4e6;
 
@@ -87,14 +89,22 @@ fn ignore<T>(answer: T) {
 }
 
 /// Nanoseconds per call of each, in turns that alternate.
-fn measure<const N: usize>(mut rivals: [&mut dyn FnMut(); N]) -> [[f64; N]; TURNS] {
+fn measure<const N: usize>(mut rivals: [&mut dyn FnMut(); N]) -> Vec<[f64; N]> {
     let times = rivals.each_mut().map(|call| calls_in_a_turn(call));
-    [(); TURNS].map(|_| std::array::from_fn(|rival| duration(rivals[rival], times[rival]) / f64::from(times[rival])))
+    let mut turn = || std::array::from_fn(|rival| duration(rivals[rival], times[rival]) / f64::from(times[rival]));
+    let start = clock();
+    let mut turns = vec![turn()];
+    while turns.len() < TURNS && clock() - start < ENOUGH {
+        turns.push(turn());
+    }
+    turns
 }
 
-fn median(mut numbers: [f64; TURNS]) -> f64 {
+/// The median of one number of each turn.
+fn median<const N: usize>(turns: &[[f64; N]], number: impl Fn(&[f64; N]) -> f64) -> f64 {
+    let mut numbers: Vec<f64> = turns.iter().map(number).collect();
     numbers.sort_by(f64::total_cmp);
-    numbers[TURNS / 2]
+    numbers[numbers.len() / 2]
 }
 
 // ---- The table ----
@@ -111,9 +121,9 @@ struct Row {
 }
 
 impl Row {
-    fn new(name: String, bytes: usize, steps: Option<u64>, turns: [[f64; 2]; TURNS]) -> Row {
-        let [ours, plain] = [0, 1].map(|rival| median(turns.map(|turn| turn[rival])));
-        Row { name, bytes, steps, ours, plain, ratio: median(turns.map(|[ours, plain]| ours / plain)) }
+    fn new(name: String, bytes: usize, steps: Option<u64>, turns: Vec<[f64; 2]>) -> Row {
+        let [ours, plain] = [0, 1].map(|rival| median(&turns, |turn| turn[rival]));
+        Row { name, bytes, steps, ours, plain, ratio: median(&turns, |[ours, plain]| ours / plain) }
     }
 
     fn print(&self) {
@@ -137,7 +147,7 @@ impl Row {
 
 fn print_table() {
     println!(
-        "Times are nanoseconds of processor time per call, the median of {TURNS} turns, and the ratio is the median of"
+        "Times are nanoseconds of processor time per call, the median of up to {TURNS} turns, the ratio the median of"
     );
     println!(
         "theirs; plain C is compiled by {}. Rows with whole or search run a built machine over a line:",
@@ -342,6 +352,6 @@ fn print_one(mode: Mode, records: &str, file: &str) -> Result<(), String> {
         "none".to_string()
     };
     let turns = measure([&mut || ignore(pattern.run(mode, black_box(&line), &mut table))]);
-    println!("{:.1} {rows}", median(turns.map(|[nanoseconds]| nanoseconds)));
+    println!("{:.1} {rows}", median(&turns, |[nanoseconds]| *nanoseconds));
     Ok(())
 }

@@ -1,6 +1,8 @@
 //! One question, and its answer by each implementation: the numbers or the refusal, and all lent memory afterwards.
 
-use crate::{plain, reference};
+#[cfg(feature = "bench")]
+use crate::plain;
+use crate::reference;
 use tojalinda::{calls, Error, Mode, Pattern, Piece};
 
 #[derive(Clone, Debug, PartialEq, Eq)]
@@ -20,16 +22,24 @@ pub struct Told {
     pub bytes: Vec<u8>,
 }
 
-/// Who may be asked. The plain machine has no replace-all and no pieces, a built pattern no pieces.
+/// Who may be asked. The plain machine, which is there with the feature `bench`, has no replace-all and no pieces, a
+/// built pattern no pieces.
 #[derive(Clone, Copy, Debug, PartialEq, Eq)]
 pub enum Who {
     Reference,
     Calls,
     Built,
+    #[cfg(feature = "bench")]
     Plain,
 }
 
-pub const ALL: [Who; 4] = [Who::Reference, Who::Calls, Who::Built, Who::Plain];
+pub const ALL: &[Who] = &[
+    Who::Reference,
+    Who::Calls,
+    Who::Built,
+    #[cfg(feature = "bench")]
+    Who::Plain,
+];
 
 fn told(numbers: Result<Vec<u64>, (u32, usize)>) -> Told {
     Told { numbers, table: Vec::new(), bytes: Vec::new() }
@@ -67,6 +77,7 @@ impl Who {
             Who::Reference => reference::check(pattern).map(|c| vec![c.places, c.depth, c.groups]),
             Who::Calls => calls::check(pattern).map(|n| list([n.places, n.depth, n.groups])).map_err(refused),
             Who::Built => Pattern::new(pattern).map(|p| list([p.places(), p.depth(), p.groups()])).map_err(refused),
+            #[cfg(feature = "bench")]
             Who::Plain => plain::check(pattern).map(|numbers| numbers.map(u64::from).to_vec()),
         }
     }
@@ -77,6 +88,7 @@ impl Who {
                 let answer = reference::fill(pattern, search, line, table)?;
                 return Ok(vec![answer.rows.is_some() as u64, answer.steps]);
             }
+            #[cfg(feature = "bench")]
             Who::Plain => return fill_plainly(search, pattern, line, table),
             Who::Calls if search => calls::search(pattern, line, table),
             Who::Calls => calls::whole_match(pattern, line, table),
@@ -96,6 +108,7 @@ impl Who {
         buffer: &mut [u8],
     ) -> Option<Result<Vec<u64>, (u32, usize)>> {
         let (output, numbers) = match self {
+            #[cfg(feature = "bench")]
             Who::Plain => return None,
             Who::Calls => {
                 let written = calls::replace(pattern, template, line, buffer).map_err(refused);
@@ -150,12 +163,13 @@ impl Who {
                 };
                 Some((numbers, part.to_vec()))
             }
-            Who::Built | Who::Plain => None,
+            _ => None,
         }
     }
 }
 
 /// The plain machine, with the refusals that it leaves to its caller.
+#[cfg(feature = "bench")]
 fn fill_plainly(search: bool, pattern: &[u8], line: &[u8], table: &mut [u16]) -> Result<Vec<u64>, (u32, usize)> {
     let mut machine = plain::Machine::build(pattern, search)?;
     if line.len() > calls::line_bytes() {
@@ -171,7 +185,7 @@ fn fill_plainly(search: bool, pattern: &[u8], line: &[u8], table: &mut [u16]) ->
 /// Asks everyone and compares with what the first who has the call tells.
 pub fn all_agree(ask: &Ask) -> Told {
     let expected = Who::Reference.told(ask).expect("the reference has every call");
-    for who in ALL {
+    for &who in ALL {
         if let Some(told) = who.told(ask) {
             assert!(told == expected, "{who:?} tells\n{told:?}\nand the reference\n{expected:?}\nfor {ask:?}");
         }

@@ -3,6 +3,7 @@
 mod asks;
 mod lent;
 mod order;
+#[cfg(feature = "bench")]
 #[path = "../../plain/plain.rs"]
 mod plain;
 mod random;

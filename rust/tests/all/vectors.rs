@@ -99,7 +99,7 @@ fn replay(file: &Path) -> usize {
     let mut cases = 0;
     for (at, line) in text.lines().enumerate() {
         let Some((ask, expected)) = case(line) else { continue };
-        for who in ALL {
+        for &who in ALL {
             check_case(who, &ask, &expected, &format!("{}:{}", file.display(), at + 1));
         }
         cases += 1;

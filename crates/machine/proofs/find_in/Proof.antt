@@ -1,6 +1,6 @@
 -- Whichever of the two the machine was built for gives what is promised.
 use mathlib.Core.Path.{sym, subst}
-use mathlib.Core.Bool.{Bool, true, false}
+use mathlib.Core.Bool.{Bool}
 use Rattle.machine.specs.Machine.{Runnable, FoundGives}
 use borrow.Author.Needs.{needs}
 use Rattle.machine.proofs.find_in.Statement.{statement}

@@ -1,6 +1,6 @@
 -- The pattern's refusals, or what the machine that was built answers.
 use lib.ListN.{replicate}
-use Rattle.places.specs.Asked.{tableRoom}
+use Rattle.laying.specs.Room.{tableRoom}
 use Rattle.machine.proofs.Building.{machine-of, refusal-of}
 use Rattle.matcher.proofs.Answering.{refuses-pattern}
 use borrow.Author.Needs.{needs}

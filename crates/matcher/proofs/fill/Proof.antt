@@ -8,16 +8,17 @@ use native.Mathlib.Nat.{zero-add}
 use native.Mathlib.Omega.{arith}
 use lib.ListN.{length, getD, set, drop, length-set}
 use lib.Seq.{paste, paste-zero, paste-suc, take-all}
+use Rattle.paper.specs.Limits.{tableNumbers}
 use Rattle.matcher.proofs.fill.Statement.{statement}
 use Rattle.matcher.proofs.fill.Tie as tie
 use Rattle.matcher.proofs.fill.Reads as reads
 use Rattle.matcher.proofs.fill.Lts as lts
 
 abbrev Inv-loop : tie.InvT-loop
-Inv-loop table₀ rows j₀ table j = (j ≤ 20) × (length table ≡ length table₀) × (table ≡ paste table₀ 0 rows j)
+Inv-loop table₀ rows j₀ table j = (j ≤ tableNumbers) × (length table ≡ length table₀) × (table ≡ paste table₀ 0 rows j)
 
 abbrev μ-loop : tie.MeasureT-loop
-μ-loop table₀ rows j₀ table j = 20 - j
+μ-loop table₀ rows j₀ table j = tableNumbers - j
 
 loop-holds : tie.Need-loop-holds Inv-loop μ-loop
 loop-holds c = (search needs, search needs, paste-zero (c .args .table .now) 0 (c .args .t2))
@@ -44,7 +45,7 @@ loop-again : tie.Need-loop-again Inv-loop μ-loop
 loop-again c =
     let args = c .before .before .args in
     let loop = c .before .loop in
-    let long : length (args .t2) ≡ 20 = search needs in
+    let long : length (args .t2) ≡ tableNumbers = search needs in
     let inside : 0 + loop .j < length (args .table .now) = omega (arith, c .before .before .pre) in
     let below : loop .j < length (args .t2) = omega (arith, c .loop-test .taken) in (
       search needs,
@@ -62,9 +63,9 @@ returns : tie.Need-returns Inv-loop μ-loop
 returns c =
     let args = c .before .before .args in
     let loop = c .before .loop in
-    let long : length (args .t2) ≡ 20 = search needs in
-    let all : loop .j ≡ 20 = omega (arith, loop .inv .0) in
-    loop .inv .2 ∙ (ap (paste (args .table .now) 0 (args .t2)) all ∙ ap (λ (rows : List ℕ). rows ++ drop 20 (args .table .now)) (take-all 20 (args .t2) (omega arith)))
+    let long : length (args .t2) ≡ tableNumbers = search needs in
+    let all : loop .j ≡ tableNumbers = omega (arith, loop .inv .0) in
+    loop .inv .2 ∙ (ap (paste (args .table .now) 0 (args .t2)) all ∙ ap (λ (rows : List ℕ). rows ++ drop tableNumbers (args .table .now)) (take-all tableNumbers (args .t2) (omega arith)))
 
 pub fill-spec : {M : Type 1} → statement M
 fill-spec =

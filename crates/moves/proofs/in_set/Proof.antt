@@ -35,7 +35,8 @@ returns c =
     let the-loop-test = c .before .before .before .before .loop-test in
     let the-if1 = c .before .before .if1 in
     let the-if2 = c .if2 in
-    sym (held-here (the-args .pattern .now) (the-loop .p) (the-loop .many) (the-args .byte) (the-loop-test .taken) (the-loop .inv .0) (the-if1 .taken) (the-if2 .taken)) ∙ the-loop .inv .1
+    sym (held-here (the-args .pattern .now) (the-loop .p) (the-loop .many) (the-args .byte) (the-loop-test .taken) (the-loop .inv .0) (the-if1 .taken) (the-if2 .taken))
+    ∙ the-loop .inv .1
 
 add-p : tie.Need-add-p Inv-loop μ-loop
 add-p c = search needs
@@ -52,8 +53,14 @@ loop-again c =
     let the-loop = c .before .before .before .loop in
     let the-loop-test = c .before .before .loop-test in
     ⊎-elim
-    (λ w. (search needs, sym (held-above (the-args .pattern .now) (the-loop .p) (the-loop .many) (the-args .byte) (the-loop-test .taken) (the-loop .inv .0) (w .2 .left)) ∙ the-loop .inv .1))
-    (λ w. (search needs, sym (held-below (the-args .pattern .now) (the-loop .p) (the-loop .many) (the-args .byte) (the-loop-test .taken) (the-loop .inv .0) (w .left)) ∙ the-loop .inv .1))
+    (λ w. (
+      search needs,
+      sym (held-above (the-args .pattern .now) (the-loop .p) (the-loop .many) (the-args .byte) (the-loop-test .taken) (the-loop .inv .0) (w .2 .left)) ∙ the-loop .inv .1,
+    ))
+    (λ w. (
+      search needs,
+      sym (held-below (the-args .pattern .now) (the-loop .p) (the-loop .many) (the-args .byte) (the-loop-test .taken) (the-loop .inv .0) (w .left)) ∙ the-loop .inv .1,
+    ))
     (c .if1 .came)
 
 returns-2 : tie.Need-returns-2 Inv-loop μ-loop

@@ -86,13 +86,15 @@ returns-4 c =
     let the-args = c .before .before .before .before .before .before .args in
     let the-clear-rows = c .before .clear-rows in
     let the-if4 = c .if4 in
-    leads-begin-optional (the-args .kind) (the-args .a) (the-args .n) (the-args .at) (the-args .places) (the-args .floor) (the-args .rows .now) (the-clear-rows .last .0) (the-clear-rows .ensures) (the-if4 .taken)
+    leads-begin-optional (the-args .kind) (the-args .a) (the-args .n) (the-args .at) (the-args .places) (the-args .floor) (the-args .rows .now)
+    (the-clear-rows .last .0) (the-clear-rows .ensures) (the-if4 .taken)
 
 returns-5 : tie.Need-returns-5
 returns-5 c =
     let the-args = c .before .before .before .before .before .before .args in
     let the-clear-rows = c .before .clear-rows in
-    leads-begin (the-args .kind) (the-args .a) (the-args .n) (the-args .at) (the-args .places) (the-args .floor) (the-args .rows .now) (the-clear-rows .last .0) (the-clear-rows .ensures) (omega arith)
+    leads-begin (the-args .kind) (the-args .a) (the-args .n) (the-args .at) (the-args .places) (the-args .floor) (the-args .rows .now)
+    (the-clear-rows .last .0) (the-clear-rows .ensures) (omega arith)
 
 pub lead-spec : {M : Type 1} → statement M
 lead-spec =

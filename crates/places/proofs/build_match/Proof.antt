@@ -1,10 +1,10 @@
 -- `build_match`: the pattern is one record, laid from 0 on, and the accepting place follows.
 use native.Mathlib.Omega.{arith}
-use Rattle.places.proofs.Walked.{pattern-stands}
-use Rattle.places.proofs.Finished.{whole-places, whole-groups, whole-few, whole-one, match-built}
 use borrow.Author.Needs.{needs}
 use Rattle.places.proofs.build_match.Statement.{statement}
 use Rattle.places.proofs.build_match.Tie as tie
+use Rattle.places.proofs.Walked.{pattern-stands}
+use Rattle.places.proofs.Finished.{whole-places, whole-groups, whole-few, whole-one, match-built}
 
 one-requires : tie.Need-one-requires
 one-requires c κs =

@@ -2,11 +2,11 @@
 use mathlib.Core.Path.{_∙_}
 use Prim.Native.Nat.{_+_}
 use native.Mathlib.Omega.{arith}
-use Rattle.places.proofs.Walked.{pattern-stands}
-use Rattle.places.proofs.Finished.{whole-places, whole-groups, whole-few, whole-one, search-built}
 use borrow.Author.Needs.{needs}
 use Rattle.places.proofs.build_search.Statement.{statement}
 use Rattle.places.proofs.build_search.Tie as tie
+use Rattle.places.proofs.Walked.{pattern-stands}
+use Rattle.places.proofs.Finished.{whole-places, whole-groups, whole-few, whole-one, search-built}
 
 add-close : tie.Need-add-close
 add-close c =

@@ -41,9 +41,10 @@ store-requires c κs =
 
 loop-holds : tie.Need-loop-holds Inv-loop μ-loop
 loop-holds c =
-    let the-wipe = c .before .before .before .before .before .before .before .before .before .before .wipe in
-    let the-args = c .before .before .before .before .before .before .before .before .before .before .before .before .before .before .before .before .before .before .before .args in
-    let the-pre = c .before .before .before .before .before .before .before .before .before .before .before .before .before .before .before .before .before .before .before .pre in
+    let early = c .before .before .before .before .before .before .before .before .before .before in
+    let the-wipe = early .wipe in
+    let the-args = early .before .before .before .before .before .before .before .before .before .args in
+    let the-pre = early .before .before .before .before .before .before .before .before .before .pre in
     let the-wipe2 = c .before .before .before .before .before .before .wipe2 in
     let the-store = c .before .before .store in
     course-first (the-args .code .now) (the-args .pattern .now) (the-args .line .now) (the-args .places) (the-args .start)

@@ -18,12 +18,12 @@ use Rattle.visit.proofs.visit.Reads as visit-reads
 use Rattle.threads.proofs.wide.Reads as wide-reads
 
 abbrev Inv-loop : tie.InvT-loop
-Inv-loop code pattern line seen₀ taken₀ lists₀ pending₀ second number places at before long from to end ahead i₀ count₀ steps₀ done₀ goes₀
+Inv-loop code pattern line seen₀ taken₀ lists₀ pending₀ second number places at made long from to end ahead i₀ count₀ steps₀ done₀ goes₀
     seen taken lists pending i count steps done goes =
-    Pace code pattern line places at seen₀ taken₀ lists₀ pending₀ second number before seen taken lists pending i count steps done goes
+    Pace code pattern line places at seen₀ taken₀ lists₀ pending₀ second number made seen taken lists pending i count steps done goes
 
 abbrev μ-loop : tie.MeasureT-loop
-μ-loop code pattern line seen₀ taken₀ lists₀ pending₀ second number places at before long from to end ahead i₀ count₀ steps₀ done₀ goes₀
+μ-loop code pattern line seen₀ taken₀ lists₀ pending₀ second number places at made long from to end ahead i₀ count₀ steps₀ done₀ goes₀
     seen taken lists pending i count steps done goes =
     (number - i) + cond goes 1 0
 
@@ -58,7 +58,7 @@ loop-holds c =
     let the-pre = c .before .before .before .before .before .before .before .before .before .before .pre in
     pace-first (the-args .code .now) (the-args .pattern .now) (the-args .line .now) (the-args .places) (the-args .at)
     (the-args .seen .now) (the-args .taken .now) (the-args .lists .now) (the-args .pending .now)
-    (the-args .second) (the-args .number) (the-args .before) (the-pre .0) (the-pre .1 .0)
+    (the-args .second) (the-args .number) (the-args .made) (the-pre .0) (the-pre .1 .0)
 
 mul-b : tie.Need-mul-b Inv-loop μ-loop
 mul-b c =
@@ -132,10 +132,11 @@ visit-requires c κs =
 
 add-i : tie.Need-add-i Inv-loop μ-loop
 add-i c =
-    let the-loop = c .before .before .before .before .before .before .before .before .before .before .before .before .before .before .before .before .before .before .loop in
-    let the-loop-test = c .before .before .before .before .before .before .before .before .before .before .before .before .before .before .before .before .before .loop-test in
-    let the-list-at = c .before .before .before .before .before .before .before .before .before .before .before .before .before .before .before .before .before .before .before .before .before .list-at in
-    let the-good = c .before .before .before .before .before .before .before .before .before .before .before .before .before .before .before .before .before .before .before .before .before .before .before .before .before .before .before .before .before .good in
+    let early = c .before .before .before .before .before .before .before .before .before .before .before .before .before .before .before .before .before in
+    let the-loop = early .before .loop in
+    let the-loop-test = early .loop-test in
+    let the-list-at = early .before .before .before .before .list-at in
+    let the-good = early .before .before .before .before .before .before .before .before .before .before .before .before .good in
     omega (arith, pace-room (the-loop .inv) (the-loop-test .taken) (the-list-at .result) (the-list-at .ensures), the-loop .inv .lists-same, the-good .1 .1 .1 .1 .1 .0 .0)
 
 more-requires : tie.Need-more-requires Inv-loop μ-loop
@@ -143,24 +144,26 @@ more-requires c κs = search needs
 
 loop-less : tie.Need-loop-less Inv-loop μ-loop
 loop-less c =
-    let the-loop = c .before .before .before .before .before .before .before .before .before .before .before .before .before .before .before .before .before .before .before .loop in
-    let the-loop-test = c .before .before .before .before .before .before .before .before .before .before .before .before .before .before .before .before .before .before .loop-test in
+    let early = c .before .before .before .before .before .before .before .before .before .before .before .before .before .before .before .before .before .before in
+    let the-loop = early .before .loop in
+    let the-loop-test = early .loop-test in
     let the-more = c .more in
     walk-less (the-loop .inv .walk) (the-loop-test .taken) (the-more .result)
 
 loop-again : tie.Need-loop-again Inv-loop μ-loop
 loop-again c =
-    let the-loop = c .before .before .before .before .before .before .before .before .before .before .before .before .before .before .before .before .before .before .before .loop in
-    let the-loop-test = c .before .before .before .before .before .before .before .before .before .before .before .before .before .before .before .before .before .before .loop-test in
-    let the-list-at = c .before .before .before .before .before .before .before .before .before .before .before .before .before .before .before .before .before .before .before .before .before .before .list-at in
-    let the-wide = c .before .before .before .before .before .before .before .before .before .before .before .before .before .before .before .before .wide in
-    let the-list-at2 = c .before .before .before .before .before .before .before .before .before .before .before .before .before .before .before .before .before .before .before .before .before .list-at2 in
-    let the-load = c .before .before .before .before .before .before .before .before .before .before .before .before .before .before .load in
+    let early = c .before .before .before .before .before .before .before .before .before .before .before .before .before .before in
+    let the-loop = early .before .before .before .before .before .loop in
+    let the-loop-test = early .before .before .before .before .loop-test in
+    let the-list-at = early .before .before .before .before .before .before .before .before .list-at in
+    let the-wide = early .before .before .wide in
+    let the-list-at2 = early .before .before .before .before .before .before .before .list-at2 in
+    let the-load = early .load in
     let the-visit = c .before .before .before .before .before .before .before .before .before .visit in
     let the-more = c .more in
     let the-lists = c .before .before .before .before .lists in
-    let the-args = c .before .before .before .before .before .before .before .before .before .before .before .before .before .before .before .before .before .before .before .before .before .before .before .before .before .before .before .before .before .before .args in
-    let the-ahead-at = c .before .before .before .before .before .before .before .before .before .before .before .before .before .before .before .before .before .before .before .before .ahead-at in
+    let the-args = early .before .before .before .before .before .before .before .before .before .before .before .before .before .before .before .before .args in
+    let the-ahead-at = early .before .before .before .before .before .before .ahead-at in
     pace-next (the-loop .inv) (the-loop-test .taken) (the-list-at .result) (the-list-at .ensures)
     (the-wide .result) (the-wide .ensures) (the-list-at2 .result) (the-list-at2 .ensures) (the-load .result) (the-load .ensures)
     (the-visit .last .1 .1 .0) (the-visit .last .1 .1 .1 .0) (the-visit .last .1 .1 .1 .1 .0) (the-visit .last .1 .1 .1 .1 .1 .0)

@@ -36,7 +36,8 @@ returns c =
     let the-mark = c .before .before .before .before .before .before .before .mark in
     let the-store = c .before .before .store in
     let the-if1 = c .before .before .before .before .if1 in
-    carries-new (the-args .taken .now) (the-args .list .now) (the-args .next) (the-args .stamp) (the-args .groups) (the-args .count) (the-mark .last .0) (the-store .last .0) (the-mark .result) (the-mark .ensures) (the-if1 .taken) (the-store .ensures)
+    carries-new (the-args .taken .now) (the-args .list .now) (the-args .next) (the-args .stamp) (the-args .groups) (the-args .count)
+    (the-mark .last .0) (the-store .last .0) (the-mark .result) (the-mark .ensures) (the-if1 .taken) (the-store .ensures)
 
 same-length-3 : tie.Need-same-length-3
 same-length-3 c = search needs
@@ -46,7 +47,8 @@ returns-2 c =
     let the-args = c .before .before .before .before .before .before .before .args in
     let the-mark = c .before .before .before .mark in
     let the-if1 = c .if1 in
-    carries-not (the-args .taken .now) (the-args .list .now) (the-args .next) (the-args .stamp) (the-args .groups) (the-args .count) (the-mark .last .0) (the-args .list .now) (the-mark .result) (the-mark .ensures) (the-if1 .left) refl
+    carries-not (the-args .taken .now) (the-args .list .now) (the-args .next) (the-args .stamp) (the-args .groups) (the-args .count)
+    (the-mark .last .0) (the-args .list .now) (the-mark .result) (the-mark .ensures) (the-if1 .left) refl
 
 pub carry-spec : {M : Type 1} → statement M
 carry-spec =

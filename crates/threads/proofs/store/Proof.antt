@@ -63,7 +63,8 @@ loop-again c =
     let the-loop = c .before .loop in
     let the-loop-test = c .loop-test in
     let long : length (the-args .t4) ≡ 20 = search needs in
-    let inside : the-args .offset + 1 + the-loop .j < length (set (the-args .list .now) (the-args .offset) (the-args .place)) = omega (arith, length-set (the-args .list .now) (the-args .offset) (the-args .place)) in
+    let inside : the-args .offset + 1 + the-loop .j < length (set (the-args .list .now) (the-args .offset) (the-args .place)) =
+    omega (arith, length-set (the-args .list .now) (the-args .offset) (the-args .place)) in
     let below : the-loop .j < length (the-args .t4) = omega (arith, the-loop-test .taken) in (
       search needs,
       length-set (the-loop .list) (the-args .offset + 1 + the-loop .j) (getD (the-args .t4) (the-loop .j) 0) ∙ the-loop .inv .1,

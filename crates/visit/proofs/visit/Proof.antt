@@ -18,12 +18,13 @@ use Rattle.threads.proofs.wait.Reads as wait-reads
 use Rattle.threads.proofs.wide.Reads as wide-reads
 
 abbrev Inv-loop : tie.InvT-loop
-Inv-loop code pattern seen₀ taken₀ list₀ pending₀ places ahead at start carried before place₀ floor₀ rows₀ count₀ steps₀ waiting₀ alive₀ goes₀ done₀
+Inv-loop code pattern seen₀ taken₀ list₀ pending₀ places ahead at start carried made place₀ floor₀ rows₀ count₀ steps₀ waiting₀ alive₀ goes₀ done₀
     seen taken list pending place floor rows count steps waiting alive goes done =
-    Turn code pattern (ahead .there) (ahead .byte) places at seen₀ taken₀ list₀ pending₀ place₀ rows₀ count₀ steps₀ seen taken list pending place floor rows count steps waiting alive goes done
+    Turn code pattern (ahead .there) (ahead .byte) places at seen₀ taken₀ list₀ pending₀ place₀ rows₀ count₀ steps₀
+    seen taken list pending place floor rows count steps waiting alive goes done
 
 abbrev μ-loop : tie.MeasureT-loop
-μ-loop code pattern seen₀ taken₀ list₀ pending₀ places ahead at start carried before place₀ floor₀ rows₀ count₀ steps₀ waiting₀ alive₀ goes₀ done₀
+μ-loop code pattern seen₀ taken₀ list₀ pending₀ places ahead at start carried made place₀ floor₀ rows₀ count₀ steps₀ waiting₀ alive₀ goes₀ done₀
     seen taken list pending place floor rows count steps waiting alive goes done =
     turns at seen waiting alive goes
 
@@ -33,7 +34,7 @@ loop-holds c =
     let the-pre = c .before .before .before .before .before .before .pre in
     turn-first (the-args .code .now) (the-args .pattern .now) (the-args .ahead .there) (the-args .ahead .byte) (the-args .places) (the-args .at)
     (the-args .seen .now) (the-args .taken .now) (the-args .list .now) (the-args .pending .now)
-    (the-args .start) (the-args .groups) (the-args .carried) (the-args .before) (search needs) the-pre
+    (the-args .start) (the-args .groups) (the-args .carried) (the-args .made) (search needs) the-pre
 
 add-mark : tie.Need-add-mark Inv-loop μ-loop
 add-mark c =
@@ -78,14 +79,15 @@ wait-requires c κs =
 
 add-waiting : tie.Need-add-waiting Inv-loop μ-loop
 add-waiting c =
-    let the-loop = c .before .before .before .before .before .before .before .before .before .before .before .before .before .loop in
-    let the-if1 = c .before .before .before .before .before .before .before .before .before .before .before .if1 in
-    let the-loop-test = c .before .before .before .before .before .before .before .before .before .before .before .before .loop-test in
+    let early = c .before .before .before .before .before .before .before .before .before .before .before in
+    let the-loop = early .before .before .loop in
+    let the-if1 = early .if1 in
+    let the-loop-test = early .before .loop-test in
     let the-mark = c .before .before .before .before .before .before .before .before .before .mark in
     let the-if2 = c .before .before .before .before .before .before .if2 in
     let the-numbers-of = c .before .before .before .before .before .numbers-of in
     let the-if3 = c .before .before .before .before .if3 in
-    let the-good = c .before .before .before .before .before .before .before .before .before .before .before .before .before .before .before .before .before .before .before .before .good in
+    let the-good = early .before .before .before .before .before .before .before .before .before .good in
     let asked =
     fork-asked (the-loop .inv) (the-if1 .taken) (the-loop-test .taken) (the-mark .last .0) (the-mark .result) (the-mark .ensures) (the-if2 .taken)
     (the-numbers-of .result .kind) (the-numbers-of .result .next) (the-numbers-of .result .a) (the-numbers-of .result .n) (the-numbers-of .ensures) (the-if3 .taken) in

@@ -1,5 +1,5 @@
 -- `replacer::scans::measure` meets its contract: what is counted and what the scan gives from here on make up the whole at each turn.
-use mathlib.Core.Path.{refl, _∙_}
+use mathlib.Core.Path.{refl}
 use mathlib.Core.Bool.{cond}
 use native.Mathlib.Omega.{arith}
 use borrow.Author.Needs.{needs}

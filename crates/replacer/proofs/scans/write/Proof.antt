@@ -1,5 +1,4 @@
 -- `replacer::scans::write` meets its contract: what is written and what the scan gives from here on make up the whole at each turn.
-use mathlib.Core.Path.{_∙_}
 use Rattle.replacer.proofs.Scanning.{Kept, kept-start, kept-on, runs-on, Filling, fill-start, fill-room, fill-more, fill-end, ahead, turns-ahead, turns-fit}
 use Rattle.replacer.proofs.scans.write.Statement.{statement}
 use Rattle.replacer.proofs.scans.write.Tie as tie

@@ -1,0 +1,48 @@
+-- A record without records inside is counted by its kind, any other by `count`.
+use borrow.Author.Needs.{needs}
+use Rattle.places.proofs.sums.alone.Statement.{statement}
+use Rattle.places.proofs.sums.alone.Tie as tie
+use Rattle.places.proofs.Adding.{alone-counted}
+
+add-number-at : tie.Need-add-number-at
+add-number-at c = search needs
+
+number-at-requires : tie.Need-number-at-requires
+number-at-requires c κs = search needs
+
+add-own-places : tie.Need-add-own-places
+add-own-places c = search needs
+
+own-places-requires : tie.Need-own-places-requires
+own-places-requires c κs = search needs
+
+capped-requires : tie.Need-capped-requires
+capped-requires c κs = search needs
+
+returns : tie.Need-returns
+returns c =
+    let the-pre = c .before .before .before .before .before .pre in
+    let the-number-at = c .before .before .before .number-at in
+    let the-if1 = c .before .before .if1 in
+    let the-own-places = c .before .own-places in
+    let the-capped = c .capped in
+    alone-counted (the-pre .0) (the-pre .1) (the-number-at .ensures .0) (the-if1 .taken) (the-own-places .ensures .0) (the-capped .ensures)
+
+count-requires : tie.Need-count-requires
+count-requires c κs = search needs
+
+returns-2 : tie.Need-returns-2
+returns-2 c = search needs
+
+pub alone-spec : {M : Type 1} → statement M
+alone-spec =
+    tie.close
+    (tie.spec
+    add-number-at
+    number-at-requires
+    add-own-places
+    own-places-requires
+    capped-requires
+    returns
+    count-requires
+    returns-2)

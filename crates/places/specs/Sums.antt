@@ -1,0 +1,70 @@
+-- What counting asks and tells of records in a row. Each promise holds for every row that meets what was asked, so no promise names a row of its own.
+use Prim.Native.Nat.{ℕ, _+_, _-_, _≤_, _<_}
+use mathlib.Core.Path.{_≡_}
+use mathlib.Core.Bool.{cond}
+use mathlib.Core.List.{List}
+use lib.Dec.{ltb, eqb}
+use lib.ListN.{length}
+use Rattle.paper.specs.Limits.{patternBytes, patternPlaces, rowCount, repeatCount, noUpperEnd}
+use Rattle.paper.specs.Pattern.{Pattern, repeatPlaces}
+use Rattle.paper.specs.Check.{numberAt, repeatHead, upperOf}
+use Rattle.pattern.specs.Walk.{placesIn, groupsIn}
+use Rattle.places.specs.Standing.{Row}
+
+-- a count of places is cut here: one more than a pattern may have
+abbrev pub mostCounted : ℕ
+mostCounted = patternPlaces + 1
+
+-- no record has more places than this when those inside it are cut
+abbrev pub mostOwn : ℕ
+mostOwn = 300000
+
+-- `capped`: the same number, where a pattern may have so many places
+pub record Capped (n r : ℕ) : Type 0 where
+  pub same : n ≤ patternPlaces → r ≡ n
+  pub small : r ≤ mostCounted
+
+-- where the records inside a record start, by the number of its kind
+abbrev pub insideStart : ℕ → ℕ → ℕ → ℕ
+insideStart kind start end = cond (ltb kind 3) end (cond (ltb kind 6) start (start + repeatHead))
+
+-- the numbers of a repeat are right: a least, and a most that is no less, or none
+pub record CountsRight (least most : ℕ) : Type 0 where
+  pub small : least ≤ repeatCount
+  pub right : (most ≡ noUpperEnd → ⊥) → (least ≤ most) × (most ≤ repeatCount)
+
+-- the places of a record by the number of its kind, from the places and the number of the records inside it
+abbrev pub ownPlaces : List ℕ → ℕ → ℕ → ℕ → ℕ → ℕ
+ownPlaces bs kind start p k =
+    cond (ltb kind 3) (cond (eqb kind 1) 0 1)
+    (cond (eqb kind 3) (p + 2)
+    (cond (eqb kind 4) p
+    (cond (eqb kind 5) (p + (k - 1)) (repeatPlaces (numberAt bs start) (upperOf (numberAt bs (start + 2))) p))))
+
+pub record OwnPlaces (bs : List ℕ) (kind start p k : ℕ) : Type 0 where
+  pub places-small : p ≤ mostCounted
+  pub records-small : k ≤ patternBytes
+  pub some : kind ≡ 5 → 1 ≤ k
+  pub here : 5 < kind → start + 4 ≤ length bs
+  pub numbers : 5 < kind → CountsRight (numberAt bs start) (numberAt bs (start + 2))
+
+abbrev pub ownGroups : ℕ → ℕ → ℕ
+ownGroups kind g = cond (eqb kind 3) (g + 1) g
+
+-- `count`: records stand from an offset up to the end of their holder
+pub record Counting (bs : List ℕ) (at stop : ℕ) : Type 0 where
+  pub records : List Pattern
+  pub stand : Row bs at stop records
+  pub ends : stop ≤ length bs
+  pub short : length bs ≤ patternBytes
+  pub few : groupsIn records ≤ rowCount
+
+-- what records add up to
+pub record Summed (records : List Pattern) (p g k : ℕ) : Type 0 where
+  pub places-are : placesIn records ≤ patternPlaces → p ≡ placesIn records
+  pub groups-are : g ≡ groupsIn records
+  pub records-are : k ≡ length records
+
+pub record Counted (bs : List ℕ) (at stop p g k : ℕ) : Type 0 where
+  pub small : p ≤ mostCounted
+  pub sums : (m : Counting bs at stop) → Summed (m .records) p g k

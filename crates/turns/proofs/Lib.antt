@@ -1,0 +1,4 @@
+-- Laws of this crate that belong to no one function.
+pub mod Written
+pub mod Putting
+pub mod Turning
