@@ -12,11 +12,11 @@ use Rattle.paper.specs.Limits.{patternLevels, rowCount, lineBytes}
 use Rattle.paper.specs.Pattern.{Pattern, allPlaces, depth, groups}
 use Rattle.paper.specs.Layout.{Lawful}
 use Rattle.paper.specs.Machine.{Place, stop, placesOf, pairs}
-use Rattle.paper.specs.Tables.{stopPlace, beginOptionalPlace, endPlace, placeNumbers, placeOf, placeAt, decode}
+use Rattle.paper.specs.Tables.{stopPlace, beginOptionalPlace, endPlace, placeNumbers, placeOf, placeAt, decode, placeKindAt, placeNextAt, placeFirstAt, placeManyAt}
 use Rattle.paper.proofs.machine.Sizes.{places-wrap, depth-wrap, depth-levels}
 use Rattle.paper.proofs.machine.Static.{Static, deepAt, deep-most, places-static}
 use Rattle.paper.proofs.machine.Nested.{Forward, places-forward}
-use Rattle.moves.specs.Moves.{placeKindAt, placeNextAt, placeFirstAt, placeManyAt, Slots}
+use Rattle.moves.specs.Moves.{Slots}
 use Rattle.visit.specs.Wired.{Wired}
 use Rattle.visit.proofs.Cells.{decode-at}
 use Rattle.laying.specs.Laid.{Readable}

@@ -13,7 +13,8 @@ use lib.ListN.{length, getD, set, length-set}
 use lib.Seq.{getD-set-same, getD-set-other}
 use Rattle.paper.specs.Rows.{Rows}
 use Rattle.paper.specs.Machine.{Thread, at, State, isSeen, stopWith}
-use Rattle.paper.proofs.machine.Once.{once, pairsOf, once-snoc}
+use Rattle.paper.specs.Once.{once, pairsOf}
+use Rattle.paper.proofs.machine.Once.{once-snoc}
 use Rattle.threads.specs.Threads.{stored, placeIn, threads, lacking, Under, Carries}
 use Rattle.moves.specs.Shows.{Shows, Carried}
 use Rattle.threads.proofs.Stamps.{lacking-mark, mark-same, under-mark}

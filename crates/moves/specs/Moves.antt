@@ -4,26 +4,13 @@ use mathlib.Core.Path.{_≡_}
 use mathlib.Core.Bool.{Bool, true, false, cond}
 use mathlib.Core.List.{List}
 use lib.Dec.{eqb}
-use lib.ListN.{length, getD, set}
+use lib.ListN.{length}
 use Rattle.paper.specs.Limits.{rowCount, absent}
 use Rattle.paper.specs.Rows.{Rows}
 use Rattle.paper.specs.Reading.{takes}
 use Rattle.paper.specs.Machine.{Place, Thread, at, State, follow, moveAt}
-use Rattle.paper.specs.Tables.{openPlace, closePlace, beginPlace, beginOptionalPlace, endPlace, setPlace, stopPlace, placeNumbers, placeOf}
+use Rattle.paper.specs.Tables.{openPlace, closePlace, beginPlace, beginOptionalPlace, endPlace, setPlace, stopPlace, placeOf}
 use Rattle.moves.specs.Shows.{AheadIn, Shows, Carried}
-
--- the four numbers of a place in a table
-abbrev pub placeKindAt : List ℕ → ℕ → ℕ
-placeKindAt code x = getD code (placeNumbers * x) 0
-
-abbrev pub placeNextAt : List ℕ → ℕ → ℕ
-placeNextAt code x = getD code (placeNumbers * x + 1) 0
-
-abbrev pub placeFirstAt : List ℕ → ℕ → ℕ
-placeFirstAt code x = getD code (placeNumbers * x + 2) 0
-
-abbrev pub placeManyAt : List ℕ → ℕ → ℕ
-placeManyAt code x = getD code (placeNumbers * x + 3) 0
 
 -- the rows that a place of this kind touches exist
 pub record Slots (kind a n : ℕ) : Type 0 where

@@ -8,7 +8,7 @@ use mathlib.Core.Option.{none, some}
 use lib.Dec.{eqb, ltb}
 use lib.ListN.{length, getD}
 use Rattle.paper.specs.Machine.{State, isSeen}
-use Rattle.paper.proofs.machine.Once.{once, pairsOf}
+use Rattle.paper.specs.Once.{once, pairsOf}
 use Rattle.threads.specs.Threads.{threadNumbers, rowsIn, placeIn, threads, lacking, Under}
 
 -- what stands in a line at a position inside it or at its end: whether a byte does, and which

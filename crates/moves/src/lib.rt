@@ -8,8 +8,8 @@ ghost use lib.Dec.{leb};
 ghost use lib.ListN.{length};
 ghost use Rattle.paper.specs.Reading.{inSet};
 ghost use Rattle.paper.specs.Check.{rangesOf, part};
-ghost use Rattle.paper.specs.Tables.{placeNumbers, forkPlace, setPlace};
-ghost use Rattle.moves.specs.Moves.{placeKindAt, placeNextAt, placeFirstAt, placeManyAt, Slots, Eats, Leads, Settling, Settles};
+ghost use Rattle.paper.specs.Tables.{placeNumbers, forkPlace, setPlace, placeKindAt, placeNextAt, placeFirstAt, placeManyAt};
+ghost use Rattle.moves.specs.Moves.{Slots, Eats, Leads, Settling, Settles};
 
 // The kinds of place. Those before SET lead on at once: a fork to two places, the others to one.
 pub const FORK: usize = PlaceKind::FORK as usize;

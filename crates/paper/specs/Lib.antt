@@ -8,6 +8,7 @@ pub mod Rows
 pub mod Reading
 pub mod Machine
 pub mod Tables
+pub mod Once
 pub mod Match
 pub mod Bounds
 pub mod Template

@@ -12,7 +12,8 @@ use lib.ListN.{length, getD, replicate, length-replicate, length-append}
 use Rattle.paper.specs.Rows.{Rows, noRows}
 use Rattle.paper.specs.Machine.{Place, Thread, at, fresh, visits, settle, run, Stopped}
 use Rattle.paper.specs.Tables.{decode}
-use Rattle.paper.proofs.machine.Once.{once, run-once}
+use Rattle.paper.specs.Once.{once}
+use Rattle.paper.proofs.machine.Once.{run-once}
 use Rattle.threads.specs.Threads.{placeIn, rowsFrom, rowsIn, threadIn, threads, stored, Under}
 use Rattle.visit.specs.Wired.{Wired}
 use Rattle.threads.proofs.Stores.{stored-long, stored-place, stored-rows}

@@ -14,9 +14,9 @@ use lib.ListN.{length, getD, set, length-append, List·getD-append}
 use lib.Seq.{getD-set-same, getD-set-other, getD-at}
 use Rattle.paper.specs.Rows.{Rows}
 use Rattle.paper.specs.Machine.{at, State, isSeen, isWon, blocked, mark, stop}
-use Rattle.paper.specs.Tables.{decode, placeAt}
+use Rattle.paper.specs.Tables.{decode, placeAt, placeKindAt, placeNextAt}
 use Rattle.moves.specs.Shows.{Shows}
-use Rattle.moves.specs.Moves.{placeKindAt, placeNextAt, levelAfter}
+use Rattle.moves.specs.Moves.{levelAfter}
 use Rattle.visit.specs.Wired.{Wired}
 
 -- ---- entries

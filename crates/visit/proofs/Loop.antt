@@ -13,10 +13,10 @@ use lib.ListN.{length, getD, set, drop, length-set, length-drop}
 use lib.Seq.{length-take-le}
 use Rattle.paper.specs.Rows.{Rows}
 use Rattle.paper.specs.Machine.{Thread, at, State, visit}
-use Rattle.paper.specs.Tables.{decode}
+use Rattle.paper.specs.Tables.{decode, placeKindAt}
 use Rattle.threads.specs.Threads.{lacking, waited, rowsFrom, Under}
 use Rattle.moves.specs.Shows.{AheadIn, Shows, Carried}
-use Rattle.moves.specs.Moves.{Slots, placeKindAt, levelAfter, Leads, Settling, Settles}
+use Rattle.moves.specs.Moves.{Slots, levelAfter, Leads, Settling, Settles}
 use Rattle.visit.specs.Wired.{Wired}
 use Rattle.visit.specs.Visits.{Arrives, Visits}
 use Rattle.threads.proofs.Stamps.{lacking-mark, mark-same, under-mark}

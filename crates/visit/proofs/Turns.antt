@@ -11,11 +11,11 @@ use lib.Dec.{eqb}
 use lib.ListN.{length, getD, set}
 use Rattle.paper.specs.Rows.{Rows}
 use Rattle.paper.specs.Machine.{Place, Thread, at, State, isSeen, isWon, mark, follow, arrive, visit, moveAt}
-use Rattle.paper.specs.Tables.{decode, placeAt, placeOf}
+use Rattle.paper.specs.Tables.{decode, placeAt, placeOf, placeKindAt, placeNextAt, placeFirstAt, placeManyAt}
 use Rattle.paper.proofs.machine.Once.{visit-blocked}
 use Rattle.threads.specs.Threads.{lacking, rowsIn}
 use Rattle.moves.specs.Shows.{AheadIn, Shows}
-use Rattle.moves.specs.Moves.{placeKindAt, placeNextAt, placeFirstAt, placeManyAt, levelAfter, Leads, Settles}
+use Rattle.moves.specs.Moves.{levelAfter, Leads, Settles}
 use Rattle.threads.proofs.Stamps.{lacking-mark, mark-same}
 use Rattle.visit.proofs.Cells.{decode-at, blocked-shown, shows-mark}
 

@@ -8,23 +8,7 @@ use mathlib.Core.Option.{none}
 use lib.Dec.{eqb}
 use borrow.Author.Tests.{eqb-true, eq-eqb}
 use Rattle.paper.specs.Machine.{Place, Thread, at, Pair, State, Move, die, win, eat, split, lead, isSeen, isWon, blocked, mark, follow, arrive, visit, visits, settle, run, moveAt, stop}
-
--- the pair of a thread
-abbrev pub pairOf : Thread → Pair
-pairOf t = record { place = t .place; level = t .level }
-
-abbrev pub pairsOf : List Thread → List Pair
-pairsOf [] = []
-pairsOf (t ∷ ts) = pairOf t ∷ pairsOf ts
-
--- the threads whose pair is not among those given and stands nowhere before
-abbrev pub onceWithout : List Pair → List Thread → List Thread
-onceWithout ps [] = []
-onceWithout ps (t ∷ ts) = cond (isSeen (t .place) (t .level) ps) (onceWithout ps ts) (t ∷ onceWithout (pairOf t ∷ ps) ts)
-
--- the first thread of each pair
-abbrev pub once : List Thread → List Thread
-once ts = onceWithout [] ts
+use Rattle.paper.specs.Once.{pairOf, pairsOf, onceWithout, once}
 
 -- ---- one thread more
 
