@@ -10,8 +10,8 @@ use lib.ListN.{getD}
 use Rattle.paper.specs.Pattern.{Mode, greedy, lazy}
 use Rattle.paper.specs.Check.{part, rangesOf}
 use Rattle.paper.specs.Machine.{Core, dead, skip, eats, captures, chain, either, must, maybe, star, Place, oneOf, stop, fork, opening, closing, begin, beginOptional, ending, accept, size, passFork}
-use Rattle.paper.specs.Tables.{placeOf}
-use Rattle.laying.specs.Laid.{kindOf, nextOf, aOf, nOf, Holds, Kept, entryOf, Lays}
+use Rattle.paper.specs.Tables.{placeOf, placeKindAt, placeNextAt, placeFirstAt, placeManyAt}
+use Rattle.laying.specs.Laid.{Holds, Kept, entryOf, Lays}
 use Rattle.laying.specs.Single.{Put}
 use Rattle.laying.specs.Copies.{movedTo, movedOther, Model, inPlace, ahead, Moving, PutMoved, PlaceMoved, Copied}
 use Rattle.laying.proofs.Stores.{agree, kept-both}
@@ -44,14 +44,15 @@ pub other-same : (from count to next kind a : ℕ) → (kind ≡ 0 → ⊥) → 
 other-same from count to next kind a not = ap (λ (b : Bool). cond b (movedTo from count to next a) a) (ne-eqb kind 0 not)
 
 -- numbers that are read, moved and written copy a place
-pub place-put : (from count to next k : ℕ) (t : List ℕ) {v v' a a' n : ℕ} {t' : List ℕ} → v ≡ nextOf t (from + k) → v' ≡ movedTo from count to next v → a ≡ aOf t (from + k)
-    → a' ≡ movedOther from count to next (kindOf t (from + k)) a → n ≡ nOf t (from + k) → Put t (to + k) (kindOf t (from + k)) v' a' n t'
+pub place-put : (from count to next k : ℕ) (t : List ℕ) {v v' a a' n : ℕ} {t' : List ℕ} → v ≡ placeNextAt t (from + k) → v' ≡ movedTo from count to next v
+    → a ≡ placeFirstAt t (from + k)
+    → a' ≡ movedOther from count to next (placeKindAt t (from + k)) a → n ≡ placeManyAt t (from + k) → Put t (to + k) (placeKindAt t (from + k)) v' a' n t'
     → PutMoved from count to next k t t'
 place-put from count to next k t ev ev' ea ea' en put =
     record {
       kind-is = put .kind-is;
       next-is = put .next-is ∙ ev' ∙ ap (movedTo from count to next) ev;
-      a-is = put .a-is ∙ ea' ∙ ap (movedOther from count to next (kindOf t (from + k))) ea;
+      a-is = put .a-is ∙ ea' ∙ ap (movedOther from count to next (placeKindAt t (from + k))) ea;
       n-is = put .n-is ∙ en;
       kept = put .kept;
     }
@@ -78,15 +79,15 @@ copy-one {from} {count} {to} {next} {k} {t} {t1} {t2} m lt c put =
 
     last : PlaceMoved from count to next k t t2
     last =
-        let e0 : kindOf t1 (from + k) ≡ kindOf t (from + k) = same (4 * (from + k)) (omega arith) (omega arith) in
-        let e1 : nextOf t1 (from + k) ≡ nextOf t (from + k) = same (4 * (from + k) + 1) (omega arith) (omega arith) in
-        let e2 : aOf t1 (from + k) ≡ aOf t (from + k) = same (4 * (from + k) + 2) (omega arith) (omega arith) in
-        let e3 : nOf t1 (from + k) ≡ nOf t (from + k) = same (4 * (from + k) + 3) (omega arith) (omega arith) in
+        let e0 : placeKindAt t1 (from + k) ≡ placeKindAt t (from + k) = same (4 * (from + k)) (omega arith) (omega arith) in
+        let e1 : placeNextAt t1 (from + k) ≡ placeNextAt t (from + k) = same (4 * (from + k) + 1) (omega arith) (omega arith) in
+        let e2 : placeFirstAt t1 (from + k) ≡ placeFirstAt t (from + k) = same (4 * (from + k) + 2) (omega arith) (omega arith) in
+        let e3 : placeManyAt t1 (from + k) ≡ placeManyAt t (from + k) = same (4 * (from + k) + 3) (omega arith) (omega arith) in
         record {
           kind-is = put .kind-is ∙ e0;
           next-is = put .next-is ∙ ap (movedTo from count to next) e1;
-          a-is = put .a-is ∙ ap (λ (y : ℕ). movedOther from count to next y (aOf t1 (from + k))) e0
-              ∙ ap (movedOther from count to next (kindOf t (from + k))) e2;
+          a-is = put .a-is ∙ ap (λ (y : ℕ). movedOther from count to next y (placeFirstAt t1 (from + k))) e0
+              ∙ ap (movedOther from count to next (placeKindAt t (from + k))) e2;
           n-is = put .n-is ∙ e3;
         }
 
@@ -163,11 +164,11 @@ module _ {from count to next : ℕ} {before after : List ℕ} (c : Copied from c
   copy-holds : (j : ℕ) → j < count → {q : Place} → Holds before bs (from + j) q → Holds after bs (to + j) (movedPlace go q)
   copy-holds j lt h =
       let m = c .moved j lt in
-      let unchanged : kindOf after (to + j) ≡ 6 → aOf after (to + j) ≡ aOf before (from + j) =
-      λ e. m .a-is ∙ other-same from count to next (kindOf before (from + j)) (aOf before (from + j)) (λ z. omega (arith, m .kind-is)) in
+      let unchanged : placeKindAt after (to + j) ≡ 6 → placeFirstAt after (to + j) ≡ placeFirstAt before (from + j) =
+      λ e. m .a-is ∙ other-same from count to next (placeKindAt before (from + j)) (placeFirstAt before (from + j)) (λ z. omega (arith, m .kind-is)) in
       record {
         decoded = agree bs (m .kind-is) (m .next-is) (m .a-is) (m .n-is)
-            ∙ place-moved go bs (kindOf before (from + j)) (nextOf before (from + j)) (aOf before (from + j)) (nOf before (from + j))
+            ∙ place-moved go bs (placeKindAt before (from + j)) (placeNextAt before (from + j)) (placeFirstAt before (from + j)) (placeManyAt before (from + j))
             ∙ ap (movedPlace go) (h .decoded);
         readable = record {
           known = omega (arith, m .kind-is, h .readable .known);

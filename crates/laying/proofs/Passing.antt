@@ -173,7 +173,12 @@ end-fits {p = p} {least = least} {may = may} {base = base} {next = next} {endles
     let total = places-may least may p none some in
     record {
       room = omega (arith, m .room);
-      next-fits = omega (arith, ev, end-small endless (may - 1) base (base + 1 + 1 + p + 1) next {most = 65535} (omega (arith, m .room)) (omega (arith, m .room)) (omega (arith, m .follows)));
+      next-fits = omega (
+        arith,
+        ev,
+        end-small endless (may - 1) base (base + 1 + 1 + p + 1) next {most = 65535} (omega (arith, m .room)) (omega (arith, m .room))
+            (omega (arith, m .follows)),
+      );
       a-fits = omega arith;
       n-fits = omega arith;
     }

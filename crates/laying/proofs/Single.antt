@@ -18,7 +18,7 @@ use Rattle.laying.specs.Single.{Put, Forked, Ranged, RangedLaid, Head, S
 use Rattle.laying.proofs.Stores.{put-holds, plain-holds, holds-kept, kept-both}
 use Rattle.laying.proofs.Entering.{star-lays}
 
--- `headed`: the place before the expression, and the expression, which may have no places
+-- a head that is written stands
 pub head-stands : (bs : List ℕ) {kind a n base v w : ℕ} {t t1 : List ℕ} → v ≡ w → Head kind a n → Put t base kind v a n t1 → Holds t1 bs base (placeOf bs kind w a n)
 head-stands bs {kind} {a} {n} {base} {t1 = t1} ev h put = subst (λ (v : ℕ). Holds t1 bs base (placeOf bs kind v a n)) ev (plain-holds bs put (h .no-set))
 

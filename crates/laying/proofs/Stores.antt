@@ -112,8 +112,12 @@ lays-same (maybe mode first n e then) p base next s lo hi h = (
   holds-same s (omega arith) (omega arith) (h .3),
   lays-same then p _ _ s (omega arith) (omega arith) (h .4),
 )
-lays-same (star mode first n e) p base next s lo hi h =
-    (holds-same s (omega arith) (omega arith) (h .0), holds-same s (omega arith) (omega arith) (h .1), lays-same e p _ _ s (omega arith) (omega arith) (h .2), holds-same s (omega arith) (omega arith) (h .3))
+lays-same (star mode first n e) p base next s lo hi h = (
+  holds-same s (omega arith) (omega arith) (h .0),
+  holds-same s (omega arith) (omega arith) (h .1),
+  lays-same e p _ _ s (omega arith) (omega arith) (h .2),
+  holds-same s (omega arith) (omega arith) (h .3),
+)
 
 -- a place below the changed part goes on to stand
 pub holds-kept : {low high x : ℕ} {t t' p : List ℕ} {q : Place} → Kept low high t t' → x < low → Holds t p x q → Holds t' p x q
@@ -125,7 +129,8 @@ lays-kept c p base next {low} k le h = lays-same c p base next {low = 0} {high =
 
 -- and those behind it
 pub lays-behind : (c : Core) (p : List ℕ) (base next : ℕ) {low high : ℕ} {t t' : List ℕ} → Kept low high t t' → high ≤ base → Lays t p c base next → Lays t' p c base next
-lays-behind c p base next k le h = lays-same c p base next {low = base} {high = base + size c} (record { numbers = λ i more less. k .behind i (omega arith) }) (omega arith) (omega arith) h
+lays-behind c p base next k le h =
+    lays-same c p base next {low = base} {high = base + size c} (record { numbers = λ i more less. k .behind i (omega arith) }) (omega arith) (omega arith) h
 
 -- what has no places is laid by any table
 pub lays-none : (c : Core) (t p : List ℕ) (base next : ℕ) → size c ≡ 0 → Lays t p c base next

@@ -4,8 +4,8 @@ use mathlib.Core.Path.{_≡_}
 use mathlib.Core.Bool.{cond}
 use mathlib.Core.List.{List}
 use lib.Dec.{ltb, eqb}
-use Rattle.paper.specs.Tables.{forkPlace}
-use Rattle.laying.specs.Laid.{kindOf, nextOf, aOf, nOf, Kept}
+use Rattle.paper.specs.Tables.{forkPlace, placeKindAt, placeNextAt, placeFirstAt, placeManyAt}
+use Rattle.laying.specs.Laid.{Kept}
 use Rattle.laying.specs.Room.{mostPlaces}
 use Rattle.laying.specs.Single.{Put}
 
@@ -33,14 +33,14 @@ pub record Moving (from count to next : ℕ) : Type 0 where
 abbrev pub PutMoved : ℕ → ℕ → ℕ → ℕ → ℕ → List ℕ → List ℕ → Type 0
 PutMoved from count to next k before after =
     let x = from + k in
-    Put before (to + k) (kindOf before x) (movedTo from count to next (nextOf before x)) (movedOther from count to next (kindOf before x) (aOf before x))
-    (nOf before x) after
+    Put before (to + k) (placeKindAt before x) (movedTo from count to next (placeNextAt before x)) (movedOther from count to next (placeKindAt before x) (placeFirstAt before x))
+    (placeManyAt before x) after
 
 pub record PlaceMoved (from count to next j : ℕ) (before after : List ℕ) : Type 0 where
-  pub kind-is : kindOf after (to + j) ≡ kindOf before (from + j)
-  pub next-is : nextOf after (to + j) ≡ movedTo from count to next (nextOf before (from + j))
-  pub a-is : aOf after (to + j) ≡ movedOther from count to next (kindOf before (from + j)) (aOf before (from + j))
-  pub n-is : nOf after (to + j) ≡ nOf before (from + j)
+  pub kind-is : placeKindAt after (to + j) ≡ placeKindAt before (from + j)
+  pub next-is : placeNextAt after (to + j) ≡ movedTo from count to next (placeNextAt before (from + j))
+  pub a-is : placeFirstAt after (to + j) ≡ movedOther from count to next (placeKindAt before (from + j)) (placeFirstAt before (from + j))
+  pub n-is : placeManyAt after (to + j) ≡ placeManyAt before (from + j)
 
 -- `copied`: the first `done` of the places are copied, and nothing else has changed
 pub record Copied (from count to next done : ℕ) (before after : List ℕ) : Type 0 where

@@ -7,26 +7,13 @@ use lib.Dec.{eqb}
 use lib.ListN.{length, getD}
 use Rattle.paper.specs.Limits.{setPairs}
 use Rattle.paper.specs.Machine.{Core, dead, skip, eats, captures, chain, either, must, maybe, star, Place, oneOf, stop, fork, opening, closing, begin, beginOptional, ending, size, entry, passFork}
-use Rattle.paper.specs.Tables.{placeNumbers, placeAt, setPlace, acceptPlace}
-
--- the numbers of a place: its kind, its follower and two more
-abbrev pub kindOf : List ℕ → ℕ → ℕ
-kindOf table x = getD table (placeNumbers * x) 0
-
-abbrev pub nextOf : List ℕ → ℕ → ℕ
-nextOf table x = getD table (placeNumbers * x + 1) 0
-
-abbrev pub aOf : List ℕ → ℕ → ℕ
-aOf table x = getD table (placeNumbers * x + 2) 0
-
-abbrev pub nOf : List ℕ → ℕ → ℕ
-nOf table x = getD table (placeNumbers * x + 3) 0
+use Rattle.paper.specs.Tables.{placeNumbers, placeKindAt, placeFirstAt, placeManyAt, placeAt, setPlace, acceptPlace}
 
 -- whoever reads the place stays in range: its kind is one of the ten, and a set's pairs stand in the pattern
 pub record Readable (table pattern : List ℕ) (x : ℕ) : Type 0 where
-  pub known : kindOf table x ≤ acceptPlace
-  pub pairs-end : kindOf table x ≡ setPlace → aOf table x + 2 * nOf table x ≤ length pattern
-  pub few-pairs : kindOf table x ≡ setPlace → nOf table x ≤ setPairs
+  pub known : placeKindAt table x ≤ acceptPlace
+  pub pairs-end : placeKindAt table x ≡ setPlace → placeFirstAt table x + 2 * placeManyAt table x ≤ length pattern
+  pub few-pairs : placeKindAt table x ≡ setPlace → placeManyAt table x ≤ setPairs
 
 -- the table's numbers at an index stand for a place
 pub record Holds (table pattern : List ℕ) (x : ℕ) (place : Place) : Type 0 where

@@ -7,8 +7,8 @@ use Rattle.paper.specs.Limits.{patternBytes, rowCount, setPairs}
 use Rattle.paper.specs.Check.{part, rangesOf, modeOf}
 use Rattle.paper.specs.Reading.{everyByte}
 use Rattle.paper.specs.Machine.{eats, oneOf, star, passFork}
-use Rattle.paper.specs.Tables.{placeNumbers, setPlace}
-use Rattle.laying.specs.Laid.{kindOf, nextOf, aOf, nOf, Holds, Kept, Lays}
+use Rattle.paper.specs.Tables.{placeNumbers, setPlace, placeKindAt, placeNextAt, placeFirstAt, placeManyAt}
+use Rattle.laying.specs.Laid.{Holds, Kept, Lays}
 use Rattle.laying.specs.Room.{mostPlaces, tableRoom, mostNumber}
 
 -- `put`: the numbers fit
@@ -20,10 +20,10 @@ pub record Fitting (table : List ℕ) (x next a n : ℕ) : Type 0 where
 
 -- `put`: the four numbers stand at the place, and nothing else has changed
 pub record Put (before : List ℕ) (x kind next a n : ℕ) (after : List ℕ) : Type 0 where
-  pub kind-is : kindOf after x ≡ kind
-  pub next-is : nextOf after x ≡ next
-  pub a-is : aOf after x ≡ a
-  pub n-is : nOf after x ≡ n
+  pub kind-is : placeKindAt after x ≡ kind
+  pub next-is : placeNextAt after x ≡ next
+  pub a-is : placeFirstAt after x ≡ a
+  pub n-is : placeManyAt after x ≡ n
   pub kept : Kept x (x + 1) before after
 
 -- `pass_fork`: the fork of an optional pass
@@ -45,7 +45,7 @@ pub record RangedLaid (bs : List ℕ) (start stop base next : ℕ) (before after
   pub kept : Kept base (base + 1) before after
   pub held : Holds after bs base (oneOf (rangesOf (part bs start stop)) next)
 
--- `headed`: the place before an expression is an open, or a begin of a pass
+-- a head, the place before an expression: an open, or a begin of a pass
 pub record Head (kind a n : ℕ) : Type 0 where
   pub no-set : kind < setPlace
   pub a-small : a ≤ rowCount

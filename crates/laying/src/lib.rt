@@ -1,5 +1,5 @@
 // Laying a place, and the passes of a repeat, into a lent table, four numbers a place (01, "The list machine", paragraph 1).
-// What stands here knows no records: `places` walks over them and calls it.
+// `places` walks over a pattern's records and calls these.
 mod copies;
 pub mod repeats;
 
@@ -55,7 +55,7 @@ pub fn set_place(
 }
 
 // The fork before an optional pass: greedy prefers the pass, lazy what follows.
-pub fn pass_fork(table: &mut [u16], x: usize, mode: usize, pass: usize, out: usize)
+fn pass_fork(table: &mut [u16], x: usize, mode: usize, pass: usize, out: usize)
     requires { ⌜ (Fitting (now table) x pass out 0) ⌝ }
     ensures { λ _. ⌜ Forked (now (table .entry)) x mode pass out (now (table .exit)) ⌝ }
 {

@@ -30,7 +30,8 @@ passes-places least (upTo most) p = refl
 
 -- they are the repeat written out
 passes-core : (endless : Bool) (least most : ℕ) (mode : Mode) (first g : ℕ) (e : Core)
-    → musts least first g e (optionals least (cond endless noEnd (upTo most)) mode first g e) ≡ passCore least endless (optionalPasses least (cond endless noEnd (upTo most))) mode first g e
+    → musts least first g e (optionals least (cond endless noEnd (upTo most)) mode first g e) ≡ passCore least endless (optionalPasses least (cond endless noEnd (upTo most)))
+    mode first g e
 passes-core true least most mode first g e = refl
 passes-core false least most mode first g e = ap (musts least first g e) (sym (optional-maybes (most - least) mode first g e))
 

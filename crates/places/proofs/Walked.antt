@@ -185,7 +185,8 @@ pub record Whole (bs : List ℕ) (e : Pattern) : Type 0 where
 pub pattern-stands : (bs : List ℕ) (e : Pattern) → patternOf bs ≡ accepted e → Whole bs e
 pattern-stands bs e accepts =
     let walk = walkRecord patternLevels bs 0 (length bs) 0 in
-    let tail : Pattern → Checked Pattern = λ m. holds (eqb (bodyEnd bs 0) (length bs)) brokenRecord (bodyEnd bs 0) >> (holds (leb (allPlaces m) patternPlaces) tooManyPlaces 0 >> accepted m) in
+    let tail : Pattern → Checked Pattern = λ m. holds (eqb (bodyEnd bs 0) (length bs)) brokenRecord (bodyEnd bs 0) >>
+    (holds (leb (allPlaces m) patternPlaces) tooManyPlaces 0 >> accepted m) in
     let (short, f) = holds-accepted (leb (length bs) patternBytes) patternTooLong 0 (walk >>= tail) accepts in
     let (m, walked, g) = bind-accepted walk tail f in
     let (ends, h) = holds-accepted (eqb (bodyEnd bs 0) (length bs)) brokenRecord (bodyEnd bs 0) (holds (leb (allPlaces m) patternPlaces) tooManyPlaces 0 >> accepted m) g in

@@ -28,15 +28,22 @@ headed-requires c κs =
     let the-any-star = c .before .before .before .any-star in
     let a = the-pre .0 in
     let w = pattern-stands (the-args .pattern .now) (a .tree) (a .found) in
-    let p = a .places-are in
-    (whole-one 5 (5 + the-args .places) w p (a .groups-are) (omega (arith, w .few-places)) (omega (arith, w .few-places)), (record { no-set = omega arith; a-small = omega arith; n-small = omega arith }, omega (arith, the-any-star .ensures .kept .same-length, the-pre .1)))
+    let p = a .places-are in (
+      whole-one 5 (5 + the-args .places) w p (a .groups-are) (omega (arith, w .few-places)) (omega (arith, w .few-places)),
+      (record { no-set = omega arith; a-small = omega arith; n-small = omega arith }, omega (arith, the-any-star .ensures .kept .same-length, the-pre .1)),
+    )
 
 put-requires : tie.Need-put-requires
 put-requires c κs =
     let the-pre = c .before .before .before .before .before .before .before .before .before .before .before .pre in
     let the-headed = c .before .before .before .headed in
     let the-any-star = c .before .before .before .before .before .before .before .any-star in
-    record { room = omega (arith, whole-few (the-pre .0), the-headed .ensures .kept .same-length, the-any-star .ensures .kept .same-length, the-pre .1); next-fits = omega (arith, whole-few (the-pre .0)); a-fits = omega arith; n-fits = omega arith }
+    record {
+      room = omega (arith, whole-few (the-pre .0), the-headed .ensures .kept .same-length, the-any-star .ensures .kept .same-length, the-pre .1);
+      next-fits = omega (arith, whole-few (the-pre .0));
+      a-fits = omega arith;
+      n-fits = omega arith;
+    }
 
 add-any-star : tie.Need-add-any-star
 add-any-star c =
@@ -55,7 +62,12 @@ any-star-requires-2 c κs =
     let the-headed = c .before .before .before .before .before .before .before .headed in
     let the-any-star = c .before .before .before .before .before .before .before .before .before .before .before .any-star in
     let few = whole-few (the-pre .0) in
-    record { room = omega (arith, few); follows = omega (arith, few); first-small = omega (arith, few); long = omega (arith, the-put .ensures .kept .same-length, the-headed .ensures .kept .same-length, the-any-star .ensures .kept .same-length, the-pre .1) }
+    record {
+      room = omega (arith, few);
+      follows = omega (arith, few);
+      first-small = omega (arith, few);
+      long = omega (arith, the-put .ensures .kept .same-length, the-headed .ensures .kept .same-length, the-any-star .ensures .kept .same-length, the-pre .1);
+    }
 
 add-put : tie.Need-add-put
 add-put c =
@@ -70,11 +82,25 @@ put-requires-2 c κs =
     let the-headed = c .before .before .before .before .before .before .before .before .before .before .before .headed in
     let the-any-star = c .before .before .before .before .before .before .before .before .before .before .before .before .before .before .before .any-star in
     let few = whole-few (the-pre .0) in
-    record { room = omega (arith, few, the-any-star2 .ensures .kept .same-length, the-put .ensures .kept .same-length, the-headed .ensures .kept .same-length, the-any-star .ensures .kept .same-length, the-pre .1); next-fits = omega arith; a-fits = omega arith; n-fits = omega arith }
+    record {
+      room = omega (
+        arith,
+        few,
+        the-any-star2 .ensures .kept .same-length,
+        the-put .ensures .kept .same-length,
+        the-headed .ensures .kept .same-length,
+        the-any-star .ensures .kept .same-length,
+        the-pre .1,
+      );
+      next-fits = omega arith;
+      a-fits = omega arith;
+      n-fits = omega arith;
+    }
 
 add-result : tie.Need-add-result
 add-result c =
-    let the-pre = c .before .before .before .before .before .before .before .before .before .before .before .before .before .before .before .before .before .before .before .before .before .before .pre in
+    let the-pre = c .before .before .before .before .before .before .before .before .before .before .before .before .before .before .before .before .before .before .before .before
+    .before .before .pre in
     omega (arith, whole-few (the-pre .0))
 
 same-length : tie.Need-same-length
@@ -83,14 +109,19 @@ same-length c =
     let the-any-star2 = c .before .before .before .before .before .before .any-star2 in
     let the-put = c .before .before .before .before .before .before .before .before .before .before .put in
     let the-headed = c .before .before .before .before .before .before .before .before .before .before .before .before .before .before .headed in
-    let the-any-star = c .before .before .before .before .before .before .before .before .before .before .before .before .before .before .before .before .before .before .any-star in
-    the-put2 .ensures .kept .same-length ∙ the-any-star2 .ensures .kept .same-length ∙ the-put .ensures .kept .same-length ∙ the-headed .ensures .kept .same-length ∙ the-any-star .ensures .kept .same-length
+    let the-any-star = c .before .before .before .before .before .before .before .before .before .before .before .before .before .before .before .before .before .before
+    .any-star in
+    the-put2 .ensures .kept .same-length ∙ the-any-star2 .ensures .kept .same-length ∙ the-put .ensures .kept .same-length ∙ the-headed .ensures .kept .same-length
+    ∙ the-any-star .ensures .kept .same-length
 
 returns : tie.Need-returns
 returns c =
-    let the-pre = c .before .before .before .before .before .before .before .before .before .before .before .before .before .before .before .before .before .before .before .before .before .before .pre in
-    let the-args = c .before .before .before .before .before .before .before .before .before .before .before .before .before .before .before .before .before .before .before .before .before .before .args in
-    let the-any-star = c .before .before .before .before .before .before .before .before .before .before .before .before .before .before .before .before .before .before .any-star in
+    let the-pre = c .before .before .before .before .before .before .before .before .before .before .before .before .before .before .before .before .before .before .before .before
+    .before .before .pre in
+    let the-args = c .before .before .before .before .before .before .before .before .before .before .before .before .before .before .before .before .before .before .before
+    .before .before .before .args in
+    let the-any-star = c .before .before .before .before .before .before .before .before .before .before .before .before .before .before .before .before .before .before
+    .any-star in
     let the-headed = c .before .before .before .before .before .before .before .before .before .before .before .before .before .before .headed in
     let the-put = c .before .before .before .before .before .before .before .before .before .before .put in
     let the-any-star2 = c .before .before .before .before .before .before .any-star2 in

@@ -42,7 +42,8 @@ returns c =
     let the-args = c .before .before .before .before .args in
     let the-loop = c .before .before .loop in
     let the-if1 = c .if1 in
-    subst (λ (k : ℕ). Copied (the-args .shift .from) (the-args .shift .count) (the-args .shift .to) (the-args .shift .next) k (the-args .table .now) (the-loop .table)) (omega (arith, the-loop .inv .0, the-if1 .left)) (the-loop .inv .1)
+    subst (λ (k : ℕ). Copied (the-args .shift .from) (the-args .shift .count) (the-args .shift .to) (the-args .shift .next) k (the-args .table .now) (the-loop .table))
+    (omega (arith, the-loop .inv .0, the-if1 .left)) (the-loop .inv .1)
 
 pub copied-spec : {M : Type 1} → statement M
 copied-spec =

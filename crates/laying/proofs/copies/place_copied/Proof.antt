@@ -76,7 +76,8 @@ returns c =
     let the-moved-other = c .before .before .before .before .before .before .before .moved-other in
     let the-number3 = c .before .before .before .before .before .number3 in
     let the-put = c .before .before .put in
-    place-put (the-args .shift .from) (the-args .shift .count) (the-args .shift .to) (the-args .shift .next) (the-args .k) (the-args .table .now) (the-number .ensures .0) (the-moved .ensures .0) (the-number2 .ensures .0) (the-moved-other .ensures .0) (the-number3 .ensures .0) (the-put .ensures)
+    place-put (the-args .shift .from) (the-args .shift .count) (the-args .shift .to) (the-args .shift .next) (the-args .k) (the-args .table .now) (the-number .ensures .0)
+    (the-moved .ensures .0) (the-number2 .ensures .0) (the-moved-other .ensures .0) (the-number3 .ensures .0) (the-put .ensures)
 
 pub place-copied-spec : {M : Type 1} → statement M
 place-copied-spec =

@@ -76,7 +76,8 @@ put-requires c κs =
     let the-begun = c .before .before .before .begun in
     let the-pass-fork = c .before .before .before .before .before .before .before .pass-fork in
     let the-pre = c .before .before .before .before .before .before .before .before .before .before .before .before .before .before .pre in
-    end-fits (the-loop .inv .asked) refl (the-loop-test .taken) (the-pass-end .ensures) (omega (arith, the-begun .ensures .kept .same-length, the-pass-fork .ensures .kept .same-length, the-loop .inv .same-length, the-pre .1))
+    end-fits (the-loop .inv .asked) refl (the-loop-test .taken) (the-pass-end .ensures)
+    (omega (arith, the-begun .ensures .kept .same-length, the-pass-fork .ensures .kept .same-length, the-loop .inv .same-length, the-pre .1))
 
 add-from : tie.Need-add-from Inv-loop μ-loop
 add-from c =

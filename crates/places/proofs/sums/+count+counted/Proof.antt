@@ -44,7 +44,20 @@ abbrev count-μ-loop : count-lts.MeasureT-loop
 count-μ-loop pattern at stop from₀ places₀ groups₀ records₀ from places groups records = stop - from
 
 abbrev count-calls : ℕ → count-lts.Claims
-count-calls t = (number-at-reads.Asked, number-at-reads.Learnt, inside-start-reads.Asked, inside-start-reads.Learnt, counted-below t, counted.Post, own-places-reads.Asked, own-places-reads.Learnt, capped-reads.Asked, capped-reads.Learnt, own-groups-reads.Asked, own-groups-reads.Learnt)
+count-calls t = (
+  number-at-reads.Asked,
+  number-at-reads.Learnt,
+  inside-start-reads.Asked,
+  inside-start-reads.Learnt,
+  counted-below t,
+  counted.Post,
+  own-places-reads.Asked,
+  own-places-reads.Learnt,
+  capped-reads.Asked,
+  capped-reads.Learnt,
+  own-groups-reads.Asked,
+  own-groups-reads.Learnt,
+)
 
 count-loop-holds : (t : ℕ) → count-lts.Need-loop-holds (count-calls t) (count-at t) count.Post count-Inv-loop count-μ-loop
 count-loop-holds t c =
@@ -101,7 +114,10 @@ count-counted-requires t c κs =
     let the-number-at = c .before .before .number-at in
     let the-number-at2 = c .before .number-at2 in
     let the-inside-start = c .inside-start in
-    let f = first (the-pre .1) (the-loop .inv) (the-loop-test .taken) in (omega (arith, inside-after (the-number-at .result) (the-loop .from + 4) (the-loop .from + 4 + the-number-at2 .result) (omega arith)), read-inside (the-loop .from) (the-number-at .ensures .0) (the-number-at2 .ensures .0) (the-inside-start .ensures) f)
+    let f = first (the-pre .1) (the-loop .inv) (the-loop-test .taken) in (
+      omega (arith, inside-after (the-number-at .result) (the-loop .from + 4) (the-loop .from + 4 + the-number-at2 .result) (omega arith)),
+      read-inside (the-loop .from) (the-number-at .ensures .0) (the-number-at2 .ensures .0) (the-inside-start .ensures) f,
+    )
 
 count-own-places-requires : (t : ℕ) → count-lts.Need-own-places-requires (count-calls t) (count-at t) count.Post count-Inv-loop count-μ-loop
 count-own-places-requires t c κs =
@@ -112,7 +128,9 @@ count-own-places-requires t c κs =
     let the-number-at2 = c .before .before .number-at2 in
     let the-inside-start = c .before .inside-start in
     let the-counted = c .counted in
-    let f = first (the-pre .1) (the-loop .inv) (the-loop-test .taken) in read-own (the-loop .from) (the-number-at .ensures .0) (the-number-at2 .ensures .0) (the-inside-start .ensures) f (the-counted .ensures)
+    let f = first (the-pre .1) (the-loop .inv) (the-loop-test .taken) in
+    read-own (the-loop .from) (the-number-at .ensures .0) (the-number-at2 .ensures .0)
+    (the-inside-start .ensures) f (the-counted .ensures)
 
 count-add-capped : (t : ℕ) → count-lts.Need-add-capped (count-calls t) (count-at t) count.Post count-Inv-loop count-μ-loop
 count-add-capped t c =
@@ -132,7 +150,9 @@ count-own-groups-requires t c κs =
     let the-number-at2 = c .before .before .before .before .number-at2 in
     let the-inside-start = c .before .before .before .inside-start in
     let the-counted = c .before .before .counted in
-    let f = first (the-pre .1) (the-loop .inv) (the-loop-test .taken) in read-groups (the-loop .from) (the-number-at .ensures .0) (the-number-at2 .ensures .0) (the-inside-start .ensures) f (the-counted .ensures)
+    let f = first (the-pre .1) (the-loop .inv) (the-loop-test .taken) in
+    read-groups (the-loop .from) (the-number-at .ensures .0) (the-number-at2 .ensures .0)
+    (the-inside-start .ensures) f (the-counted .ensures)
 
 count-add-groups : (t : ℕ) → count-lts.Need-add-groups (count-calls t) (count-at t) count.Post count-Inv-loop count-μ-loop
 count-add-groups t c =
@@ -167,7 +187,8 @@ count-loop-again t c =
     let the-own-places = c .before .before .own-places in
     let the-capped = c .before .capped in
     let the-own-groups = c .own-groups in
-    adding-turn (the-loop .from) (the-number-at .ensures .0) (the-number-at2 .ensures .0) (the-inside-start .ensures) (the-pre .1) (the-loop .inv) (the-loop-test .taken) (the-counted .ensures) (the-own-places .ensures .0) (the-capped .ensures) (the-own-groups .ensures .0)
+    adding-turn (the-loop .from) (the-number-at .ensures .0) (the-number-at2 .ensures .0) (the-inside-start .ensures) (the-pre .1) (the-loop .inv) (the-loop-test .taken)
+    (the-counted .ensures) (the-own-places .ensures .0) (the-capped .ensures) (the-own-groups .ensures .0)
 
 count-returns : (t : ℕ) → count-lts.Need-returns (count-calls t) (count-at t) count.Post count-Inv-loop count-μ-loop
 count-returns t c =

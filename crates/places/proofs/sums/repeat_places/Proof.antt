@@ -55,7 +55,11 @@ add-result-6 c =
     let the-pre = c .before .pre in
     let the-if1 = c .if1 in
     let the-args = c .before .args in
-    let w = the-pre .0 .right (the-if1 .left) in omega (arith, product-small (the-args .least) (1 + the-args .places) (the-pre .0 .small) (omega arith), product-small (the-args .most - the-args .least) (3 + the-args .places) (omega arith) (omega arith))
+    let w = the-pre .0 .right (the-if1 .left) in omega (
+      arith,
+      product-small (the-args .least) (1 + the-args .places) (the-pre .0 .small) (omega arith),
+      product-small (the-args .most - the-args .least) (3 + the-args .places) (omega arith) (omega arith),
+    )
 
 returns : tie.Need-returns
 returns c =

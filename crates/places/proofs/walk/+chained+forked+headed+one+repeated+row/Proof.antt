@@ -148,8 +148,13 @@ chained-one-requires t c κs =
     let the-loop = c .before .before .before .before .loop in
     let the-loop-test = c .before .before .before .loop-test in
     let the-alone = c .before .before .alone in
-    let the-entered = c .before .entered in
-    (omega (arith, the-pre .0, the-loop .inv .passed, the-loop .inv .end-is, row-header (the-loop .inv .row)), (chain-one (the-loop .inv .end-is) (the-loop-test .taken) (the-alone .ensures) (the-entered .result) (the-entered .ensures) (the-loop .inv .row), omega (arith, the-loop .inv .same-length, the-pre .1 .1)))
+    let the-entered = c .before .entered in (
+      omega (arith, the-pre .0, the-loop .inv .passed, the-loop .inv .end-is, row-header (the-loop .inv .row)),
+      (
+        chain-one (the-loop .inv .end-is) (the-loop-test .taken) (the-alone .ensures) (the-entered .result) (the-entered .ensures) (the-loop .inv .row),
+        omega (arith, the-loop .inv .same-length, the-pre .1 .1),
+      ),
+    )
 
 chained-add-first : (t : ℕ) → chained-lts.Need-add-first (chained-calls t) (chained-at t) chained.Post chained-Inv-loop chained-μ-loop
 chained-add-first t c =
@@ -169,8 +174,10 @@ chained-record-end-requires-2 : (t : ℕ) → chained-lts.Need-record-end-requir
 chained-record-end-requires-2 t c κs =
     let the-loop = c .before .before .before .before .before .before .before .before .before .loop in
     let the-loop-test = c .before .before .before .before .before .before .before .before .loop-test in
-    let the-alone = c .before .before .before .before .before .before .before .alone in
-    (omega (arith, row-header (chain-rest (the-loop .inv .end-is) (the-loop-test .taken) (the-alone .ensures) (the-loop .inv .row)), the-loop .inv .row .ends), the-loop .inv .row .short)
+    let the-alone = c .before .before .before .before .before .before .before .alone in (
+      omega (arith, row-header (chain-rest (the-loop .inv .end-is) (the-loop-test .taken) (the-alone .ensures) (the-loop .inv .row)), the-loop .inv .row .ends),
+      the-loop .inv .row .short,
+    )
 
 chained-loop-less : (t : ℕ) → chained-lts.Need-loop-less (chained-calls t) (chained-at t) chained.Post chained-Inv-loop chained-μ-loop
 chained-loop-less t c =
@@ -191,8 +198,13 @@ chained-one-requires-2 : (t : ℕ) → chained-lts.Need-one-requires-2 (chained-
 chained-one-requires-2 t c κs =
     let the-pre = c .before .before .before .before .before .before .pre in
     let the-loop = c .before .before .loop in
-    let the-loop-test = c .before .loop-test in
-    (omega (arith, the-pre .0, the-loop .inv .passed), (last-one (the-loop .inv .end-is) (the-loop-test .left) (the-loop .inv .row), omega (arith, the-loop .inv .same-length, the-pre .1 .1)))
+    let the-loop-test = c .before .loop-test in (
+      omega (arith, the-pre .0, the-loop .inv .passed),
+      (
+        last-one (the-loop .inv .end-is) (the-loop-test .left) (the-loop .inv .row),
+        omega (arith, the-loop .inv .same-length, the-pre .1 .1),
+      ),
+    )
 
 chained-same-length : (t : ℕ) → chained-lts.Need-same-length (chained-calls t) (chained-at t) chained.Post chained-Inv-loop chained-μ-loop
 chained-same-length t c =
@@ -215,7 +227,18 @@ abbrev forked-μ-loop : forked-lts.MeasureT-loop
 forked-μ-loop pattern table₀ base next stop at₀ first₀ left₀ inside₀ from₀ end₀ table at first left inside from end = stop - at
 
 abbrev forked-calls : ℕ → forked-lts.Claims
-forked-calls t = (record-end-reads.Asked, record-end-reads.Learnt, alone-reads.Asked, alone-reads.Learnt, entered-reads.Asked, entered-reads.Learnt, put-reads.Asked, put-reads.Learnt, one-below t, one.Post)
+forked-calls t = (
+  record-end-reads.Asked,
+  record-end-reads.Learnt,
+  alone-reads.Asked,
+  alone-reads.Learnt,
+  entered-reads.Asked,
+  entered-reads.Learnt,
+  put-reads.Asked,
+  put-reads.Learnt,
+  one-below t,
+  one.Post,
+)
 
 forked-record-end-requires : (t : ℕ) → forked-lts.Need-record-end-requires (forked-calls t) (forked-at t) forked.Post forked-Inv-loop forked-μ-loop
 forked-record-end-requires t c κs =
@@ -295,8 +318,13 @@ forked-one-requires t c κs =
     let the-loop = c .before .before .before .before .before .before .before .before .before .loop in
     let the-loop-test = c .before .before .before .before .before .before .before .before .loop-test in
     let the-alone = c .before .before .before .before .before .before .before .alone in
-    let the-put = c .before .before .before .put in
-    (omega (arith, the-pre .0, the-loop .inv .passed, the-loop .inv .end-is, row-header (the-loop .inv .row)), (fork-one (the-loop .inv .end-is) (the-loop-test .taken) (the-alone .ensures) (the-loop .inv .row), omega (arith, the-put .ensures .kept .same-length, the-loop .inv .same-length, the-pre .1 .1)))
+    let the-put = c .before .before .before .put in (
+      omega (arith, the-pre .0, the-loop .inv .passed, the-loop .inv .end-is, row-header (the-loop .inv .row)),
+      (
+        fork-one (the-loop .inv .end-is) (the-loop-test .taken) (the-alone .ensures) (the-loop .inv .row),
+        omega (arith, the-put .ensures .kept .same-length, the-loop .inv .same-length, the-pre .1 .1),
+      ),
+    )
 
 forked-add-first : (t : ℕ) → forked-lts.Need-add-first (forked-calls t) (forked-at t) forked.Post forked-Inv-loop forked-μ-loop
 forked-add-first t c =
@@ -316,8 +344,10 @@ forked-record-end-requires-2 : (t : ℕ) → forked-lts.Need-record-end-requires
 forked-record-end-requires-2 t c κs =
     let the-loop = c .before .before .before .before .before .before .before .before .before .before .before .before .before .before .loop in
     let the-loop-test = c .before .before .before .before .before .before .before .before .before .before .before .before .before .loop-test in
-    let the-alone = c .before .before .before .before .before .before .before .before .before .before .before .before .alone in
-    (omega (arith, row-header (fork-rest (the-loop .inv .end-is) (the-loop-test .taken) (the-alone .ensures) (the-loop .inv .row)), the-loop .inv .row .ends), the-loop .inv .row .short)
+    let the-alone = c .before .before .before .before .before .before .before .before .before .before .before .before .alone in (
+      omega (arith, row-header (fork-rest (the-loop .inv .end-is) (the-loop-test .taken) (the-alone .ensures) (the-loop .inv .row)), the-loop .inv .row .ends),
+      the-loop .inv .row .short,
+    )
 
 forked-loop-less : (t : ℕ) → forked-lts.Need-loop-less (forked-calls t) (forked-at t) forked.Post forked-Inv-loop forked-μ-loop
 forked-loop-less t c =
@@ -334,14 +364,20 @@ forked-loop-again t c =
     let the-put = c .before .before .before .before .before .before .before .before .before .put in
     let the-one = c .before .before .before .before .before .one in
     let the-record-end2 = c .record-end2 in
-    along-fork (the-loop .inv) (the-loop-test .taken) (the-alone .ensures) (the-entered .ensures) (the-entered2 .ensures) (the-put .ensures) (the-one .ensures) (the-record-end2 .ensures)
+    along-fork (the-loop .inv) (the-loop-test .taken) (the-alone .ensures) (the-entered .ensures) (the-entered2 .ensures) (the-put .ensures) (the-one .ensures)
+    (the-record-end2 .ensures)
 
 forked-one-requires-2 : (t : ℕ) → forked-lts.Need-one-requires-2 (forked-calls t) (forked-at t) forked.Post forked-Inv-loop forked-μ-loop
 forked-one-requires-2 t c κs =
     let the-pre = c .before .before .before .before .before .before .pre in
     let the-loop = c .before .before .loop in
-    let the-loop-test = c .before .loop-test in
-    (omega (arith, the-pre .0, the-loop .inv .passed), (last-one (the-loop .inv .end-is) (the-loop-test .left) (the-loop .inv .row), omega (arith, the-loop .inv .same-length, the-pre .1 .1)))
+    let the-loop-test = c .before .loop-test in (
+      omega (arith, the-pre .0, the-loop .inv .passed),
+      (
+        last-one (the-loop .inv .end-is) (the-loop-test .left) (the-loop .inv .row),
+        omega (arith, the-loop .inv .same-length, the-pre .1 .1),
+      ),
+    )
 
 forked-same-length : (t : ℕ) → forked-lts.Need-same-length (forked-calls t) (forked-at t) forked.Post forked-Inv-loop forked-μ-loop
 forked-same-length t c =
@@ -399,7 +435,20 @@ headed-returns t c =
     head-one (the-entered .ensures) (the-pre .1 .1 .0) (the-put .ensures) (the-one .ensures)
 
 abbrev one-calls : ℕ → one-lts.Claims
-one-calls t = (number-at-reads.Asked, number-at-reads.Learnt, put-reads.Asked, put-reads.Learnt, set-place-reads.Asked, set-place-reads.Learnt, headed-below t, headed.Post, repeated-below t, repeated.Post, row-below t, row.Post)
+one-calls t = (
+  number-at-reads.Asked,
+  number-at-reads.Learnt,
+  put-reads.Asked,
+  put-reads.Learnt,
+  set-place-reads.Asked,
+  set-place-reads.Learnt,
+  headed-below t,
+  headed.Post,
+  repeated-below t,
+  repeated.Post,
+  row-below t,
+  row.Post,
+)
 
 one-add-number-at : (t : ℕ) → one-lts.Need-add-number-at (one-calls t) (one-at t) one.Post
 one-add-number-at t c =
@@ -474,8 +523,13 @@ one-headed-requires : (t : ℕ) → one-lts.Need-headed-requires (one-calls t) (
 one-headed-requires t c κs =
     let the-pre = c .before .before .before .before .before .before .before .before .pre in
     let the-number-at = c .before .before .before .before .before .number-at in
-    let the-if4 = c .before .if4 in
-    (omega (arith, the-pre .0, (the-pre .1 .0) .inside .end-is, (the-pre .1 .0) .inside .ends, (the-pre .1 .0) .inside .short), (group-one (the-pre .1 .0) (the-number-at .ensures .0) (the-if4 .taken), (record { no-set = omega arith; a-small = omega (arith, (the-pre .1 .0) .inside .few); n-small = omega arith }, the-pre .1 .1)))
+    let the-if4 = c .before .if4 in (
+      omega (arith, the-pre .0, (the-pre .1 .0) .inside .end-is, (the-pre .1 .0) .inside .ends, (the-pre .1 .0) .inside .short),
+      (
+        group-one (the-pre .1 .0) (the-number-at .ensures .0) (the-if4 .taken),
+        (record { no-set = omega arith; a-small = omega (arith, (the-pre .1 .0) .inside .few); n-small = omega arith }, the-pre .1 .1),
+      ),
+    )
 
 one-put-requires-2 : (t : ℕ) → one-lts.Need-put-requires-2 (one-calls t) (one-at t) one.Post
 one-put-requires-2 t c κs =
@@ -483,15 +537,28 @@ one-put-requires-2 t c κs =
     let the-number-at = c .before .before .before .before .before .before .before .before .before .number-at in
     let the-if4 = c .before .before .before .before .before .if4 in
     let the-headed = c .before .before .before .headed in
-    record { room = omega (arith, (the-pre .1 .0) .room, group-two (the-pre .1 .0) (the-number-at .ensures .0) (the-if4 .taken), the-headed .ensures .kept .same-length, the-pre .1 .1); next-fits = omega (arith, (the-pre .1 .0) .follows); a-fits = omega (arith, (the-pre .1 .0) .inside .few); n-fits = omega arith }
+    record {
+      room = omega (
+        arith,
+        (the-pre .1 .0) .room,
+        group-two (the-pre .1 .0) (the-number-at .ensures .0) (the-if4 .taken),
+        the-headed .ensures .kept .same-length,
+        the-pre .1 .1,
+      );
+      next-fits = omega (arith, (the-pre .1 .0) .follows);
+      a-fits = omega (arith, (the-pre .1 .0) .inside .few);
+      n-fits = omega arith;
+    }
 
 one-repeated-requires : (t : ℕ) → one-lts.Need-repeated-requires (one-calls t) (one-at t) one.Post
 one-repeated-requires t c κs =
     let the-pre = c .before .before .before .before .before .before .before .before .before .pre in
     let the-if1 = c .before .before .before .before .before .if1 in
     let the-number-at = c .before .before .before .before .before .before .number-at in
-    let the-if5 = c .before .if5 in
-    (omega (arith, the-pre .0, (the-pre .1 .0) .inside .end-is, (the-pre .1 .0) .inside .ends, (the-pre .1 .0) .inside .short), (repeat-ask (the-pre .1 .0) (the-if1 .left) (the-number-at .ensures .0) (the-if5 .taken), the-pre .1 .1))
+    let the-if5 = c .before .if5 in (
+      omega (arith, the-pre .0, (the-pre .1 .0) .inside .end-is, (the-pre .1 .0) .inside .ends, (the-pre .1 .0) .inside .short),
+      (repeat-ask (the-pre .1 .0) (the-if1 .left) (the-number-at .ensures .0) (the-if5 .taken), the-pre .1 .1),
+    )
 
 one-row-requires : (t : ℕ) → one-lts.Need-row-requires (one-calls t) (one-at t) one.Post
 one-row-requires t c κs =
@@ -501,8 +568,10 @@ one-row-requires t c κs =
     let the-if2 = c .before .before .before .before .if2 in
     let the-if3 = c .before .before .before .if3 in
     let the-if4 = c .before .before .if4 in
-    let the-if5 = c .before .if5 in
-    (omega (arith, the-pre .0, (the-pre .1 .0) .inside .end-is, (the-pre .1 .0) .inside .ends, (the-pre .1 .0) .inside .short), (row-ask (the-if1 .left) (the-number-at .ensures .0) (the-if2 .left) (the-if3 .left) (the-if4 .left) (the-if5 .left) (the-pre .1 .0), the-pre .1 .1))
+    let the-if5 = c .before .if5 in (
+      omega (arith, the-pre .0, (the-pre .1 .0) .inside .end-is, (the-pre .1 .0) .inside .ends, (the-pre .1 .0) .inside .short),
+      (row-ask (the-if1 .left) (the-number-at .ensures .0) (the-if2 .left) (the-if3 .left) (the-if4 .left) (the-if5 .left) (the-pre .1 .0), the-pre .1 .1),
+    )
 
 one-returns : (t : ℕ) → one-lts.Need-returns (one-calls t) (one-at t) one.Post
 one-returns t c =
@@ -580,7 +649,20 @@ one-returns-6 t c =
     row-laid (the-if1 .left) (the-number-at .ensures .0) (the-if2 .left) (the-if3 .left) (the-if4 .left) (the-if5 .left) (the-row .ensures)
 
 abbrev repeated-calls : ℕ → repeated-lts.Claims
-repeated-calls t = (number-at-reads.Asked, number-at-reads.Learnt, optional-reads.Asked, optional-reads.Learnt, inner-places-reads.Asked, inner-places-reads.Learnt, inner-start-reads.Asked, inner-start-reads.Learnt, one-below t, one.Post, passes-reads.Asked, passes-reads.Learnt)
+repeated-calls t = (
+  number-at-reads.Asked,
+  number-at-reads.Learnt,
+  optional-reads.Asked,
+  optional-reads.Learnt,
+  inner-places-reads.Asked,
+  inner-places-reads.Learnt,
+  inner-start-reads.Asked,
+  inner-start-reads.Learnt,
+  one-below t,
+  one.Post,
+  passes-reads.Asked,
+  passes-reads.Learnt,
+)
 
 repeated-add-start : (t : ℕ) → repeated-lts.Need-add-start (repeated-calls t) (repeated-at t) repeated.Post
 repeated-add-start t c =
@@ -643,7 +725,14 @@ repeated-add-one t c =
     let the-optional = c .before .before .optional in
     let the-inner-places = c .before .inner-places in
     let the-inner-start = c .inner-start in
-    omega (arith, the-pre .1 .0 .inside .end-is, the-pre .1 .0 .inside .ends, the-pre .1 .0 .inside .short, inner-ask (the-pre .1 .0) (the-number-at .ensures .0) (the-number-at2 .ensures .0) (the-number-at3 .ensures .0) (the-optional .ensures) (the-inner-places .ensures) (the-inner-start .ensures) .room)
+    omega (
+      arith,
+      the-pre .1 .0 .inside .end-is,
+      the-pre .1 .0 .inside .ends,
+      the-pre .1 .0 .inside .short,
+      inner-ask (the-pre .1 .0) (the-number-at .ensures .0) (the-number-at2 .ensures .0) (the-number-at3 .ensures .0) (the-optional .ensures) (the-inner-places .ensures)
+          (the-inner-start .ensures) .room,
+    )
 
 repeated-add-one-2 : (t : ℕ) → repeated-lts.Need-add-one-2 (repeated-calls t) (repeated-at t) repeated.Post
 repeated-add-one-2 t c =
@@ -654,7 +743,14 @@ repeated-add-one-2 t c =
     let the-optional = c .before .before .before .optional in
     let the-inner-places = c .before .before .inner-places in
     let the-inner-start = c .before .inner-start in
-    omega (arith, the-pre .1 .0 .inside .end-is, the-pre .1 .0 .inside .ends, the-pre .1 .0 .inside .short, inner-ask (the-pre .1 .0) (the-number-at .ensures .0) (the-number-at2 .ensures .0) (the-number-at3 .ensures .0) (the-optional .ensures) (the-inner-places .ensures) (the-inner-start .ensures) .room)
+    omega (
+      arith,
+      the-pre .1 .0 .inside .end-is,
+      the-pre .1 .0 .inside .ends,
+      the-pre .1 .0 .inside .short,
+      inner-ask (the-pre .1 .0) (the-number-at .ensures .0) (the-number-at2 .ensures .0) (the-number-at3 .ensures .0) (the-optional .ensures) (the-inner-places .ensures)
+          (the-inner-start .ensures) .room,
+    )
 
 repeated-one-requires : (t : ℕ) → repeated-lts.Need-one-requires (repeated-calls t) (repeated-at t) repeated.Post
 repeated-one-requires t c κs =
@@ -664,8 +760,14 @@ repeated-one-requires t c κs =
     let the-number-at3 = c .before .before .before .before .number-at3 in
     let the-optional = c .before .before .before .optional in
     let the-inner-places = c .before .before .inner-places in
-    let the-inner-start = c .before .inner-start in
-    (omega (arith, the-pre .0, the-pre .1 .0 .inside .end-is), (inner-ask (the-pre .1 .0) (the-number-at .ensures .0) (the-number-at2 .ensures .0) (the-number-at3 .ensures .0) (the-optional .ensures) (the-inner-places .ensures) (the-inner-start .ensures), the-pre .1 .1))
+    let the-inner-start = c .before .inner-start in (
+      omega (arith, the-pre .0, the-pre .1 .0 .inside .end-is),
+      (
+        inner-ask (the-pre .1 .0) (the-number-at .ensures .0) (the-number-at2 .ensures .0) (the-number-at3 .ensures .0)
+            (the-optional .ensures) (the-inner-places .ensures) (the-inner-start .ensures),
+        the-pre .1 .1,
+      ),
+    )
 
 repeated-passes-requires : (t : ℕ) → repeated-lts.Need-passes-requires (repeated-calls t) (repeated-at t) repeated.Post
 repeated-passes-requires t c κs =
@@ -676,8 +778,11 @@ repeated-passes-requires t c κs =
     let the-optional = c .before .before .before .before .before .before .before .optional in
     let the-inner-places = c .before .before .before .before .before .before .inner-places in
     let the-inner-start = c .before .before .before .before .before .inner-start in
-    let the-one = c .before .before .before .one in
-    (passes-ask (the-pre .1 .0) (the-number-at .ensures .0) (the-number-at2 .ensures .0) (the-number-at3 .ensures .0) (the-optional .ensures) (the-inner-places .ensures) (the-inner-start .ensures), omega (arith, the-one .ensures .kept .same-length, the-pre .1 .1))
+    let the-one = c .before .before .before .one in (
+      passes-ask (the-pre .1 .0) (the-number-at .ensures .0) (the-number-at2 .ensures .0) (the-number-at3 .ensures .0) (the-optional .ensures) (the-inner-places .ensures)
+          (the-inner-start .ensures),
+      omega (arith, the-one .ensures .kept .same-length, the-pre .1 .1),
+    )
 
 repeated-same-length : (t : ℕ) → repeated-lts.Need-same-length (repeated-calls t) (repeated-at t) repeated.Post
 repeated-same-length t c =
@@ -696,7 +801,8 @@ repeated-returns t c =
     let the-inner-start = c .before .before .before .before .before .before .before .before .inner-start in
     let the-one = c .before .before .before .before .before .before .one in
     let the-passes = c .before .before .passes in
-    repeat-passes (the-pre .1 .0) (the-number-at .ensures .0) (the-number-at2 .ensures .0) (the-number-at3 .ensures .0) (the-optional .ensures) (the-inner-places .ensures) (the-inner-start .ensures) (the-one .ensures) (the-passes .ensures)
+    repeat-passes (the-pre .1 .0) (the-number-at .ensures .0) (the-number-at2 .ensures .0) (the-number-at3 .ensures .0) (the-optional .ensures) (the-inner-places .ensures)
+    (the-inner-start .ensures) (the-one .ensures) (the-passes .ensures)
 
 abbrev row-calls : ℕ → row-lts.Claims
 row-calls t = (forked-below t, forked.Post, chained-below t, chained.Post)
@@ -705,15 +811,27 @@ row-forked-requires : (t : ℕ) → row-lts.Need-forked-requires (row-calls t) (
 row-forked-requires t c κs =
     let the-pre = c .before .before .before .before .pre in
     let the-args = c .before .before .before .before .args in
-    let the-if1 = c .before .if1 in
-    (omega (arith, the-pre .0), (subst (λ (b : Bool). Several (the-args .pattern .now) (the-args .part .at) (the-args .part .stop) b (the-args .base) (the-args .next) (the-args .part .first) (the-args .part .places) (the-args .part .groups)) (the-if1 .taken) (the-pre .1 .0), the-pre .1 .1))
+    let the-if1 = c .before .if1 in (
+      omega (arith, the-pre .0),
+      (
+        subst (λ (b : Bool). Several (the-args .pattern .now) (the-args .part .at) (the-args .part .stop) b (the-args .base) (the-args .next) (the-args .part .first)
+            (the-args .part .places) (the-args .part .groups)) (the-if1 .taken) (the-pre .1 .0),
+        the-pre .1 .1,
+      ),
+    )
 
 row-chained-requires : (t : ℕ) → row-lts.Need-chained-requires (row-calls t) (row-at t) row.Post
 row-chained-requires t c κs =
     let the-pre = c .before .before .before .before .pre in
     let the-args = c .before .before .before .before .args in
-    let the-if1 = c .before .if1 in
-    (omega (arith, the-pre .0), (subst (λ (b : Bool). Several (the-args .pattern .now) (the-args .part .at) (the-args .part .stop) b (the-args .base) (the-args .next) (the-args .part .first) (the-args .part .places) (the-args .part .groups)) (the-if1 .left) (the-pre .1 .0), the-pre .1 .1))
+    let the-if1 = c .before .if1 in (
+      omega (arith, the-pre .0),
+      (
+        subst (λ (b : Bool). Several (the-args .pattern .now) (the-args .part .at) (the-args .part .stop) b (the-args .base) (the-args .next) (the-args .part .first)
+            (the-args .part .places) (the-args .part .groups)) (the-if1 .left) (the-pre .1 .0),
+        the-pre .1 .1,
+      ),
+    )
 
 row-same-length : (t : ℕ) → row-lts.Need-same-length (row-calls t) (row-at t) row.Post
 row-same-length t c =
