@@ -24,7 +24,7 @@ held-none pattern p many byte h =
     ap (λ (n : ℕ). inSet (rangesOf (take n (drop p pattern))) byte) e
 
 -- the first range, and then the others
-pub held-more : (pattern : List ℕ) (p many byte : ℕ) → 0 < many → p + 2 * many ≤ length pattern
+held-more : (pattern : List ℕ) (p many byte : ℕ) → 0 < many → p + 2 * many ≤ length pattern
     → held pattern p many byte ≡ ((leb (getD pattern p 0) byte && leb byte (getD pattern (p + 1) 0)) || held pattern (p + 2) (many - 1) byte)
 held-more pattern p many byte h fits =
     let e : p + 2 * many - p ≡ suc (suc (p + 2 + 2 * (many - 1) - (p + 2))) = omega arith in

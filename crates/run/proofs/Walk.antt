@@ -123,7 +123,7 @@ module _ {code pattern line : List ℕ} {places p : ℕ} {seen₀ taken₀ from 
     {seen taken list : List ℕ} {i count steps : ℕ} {done goes : Bool}
     (w : Walk code pattern line places p seen₀ taken₀ from number list₀ steps₀ seen taken list i count steps done goes) where
   -- a thread is left, and none has won
-  pub walk-inside : goes ≡ true → i < number
+  walk-inside : goes ≡ true → i < number
   walk-inside go = ltb-true i number (and-second (not done) (ltb i number) (sym go ∙ w .going))
 
   walk-alive : goes ≡ true → done ≡ false

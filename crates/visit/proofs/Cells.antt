@@ -5,7 +5,7 @@ use mathlib.Core.Bool.{Bool, true, false, cond, _&&_, _||_}
 use mathlib.Core.List.{List, [], _∷_}
 use mathlib.Core.Option.{Option}
 use native.Mathlib.Omega.{arith}
-use native.Mathlib.Nat.{suc-mul, mul-le-mul-right, le-mul-of-pos-right}
+use native.Mathlib.Nat.{suc-mul, mul-le-mul-right}
 use native.Mathlib.Decide.{ℕ-discrete, decLt}
 use native.Mathlib.Numerals.{add-one}
 use borrow.Author.Tests.{eq-eqb, ne-eqb, eqb-true}
@@ -26,7 +26,7 @@ row-before : (places l m x : ℕ) → x < places → l < m → l * places + x < 
 row-before places l m x inside h = omega (arith, suc-mul l places, mul-le-mul-right places h)
 
 -- equal entries have equal levels
-pub cell-level : (places x l y m : ℕ) → x < places → y < places → l * places + x ≡ m * places + y → l ≡ m
+cell-level : (places x l y m : ℕ) → x < places → y < places → l * places + x ≡ m * places + y → l ≡ m
 cell-level places x l y m hx hy e = below (decLt l m)
   where
     above : Dec (m < l) → (l < m → ⊥) → l ≡ m
@@ -38,7 +38,7 @@ cell-level places x l y m hx hy e = below (decLt l m)
     below (no h) = above (decLt m l) h
 
 -- and equal places
-pub cell-place : (places x l y m : ℕ) → x < places → y < places → l * places + x ≡ m * places + y → x ≡ y
+cell-place : (places x l y m : ℕ) → x < places → y < places → l * places + x ≡ m * places + y → x ≡ y
 cell-place places x l y m hx hy e =
     let same : l * places ≡ m * places = ap (λ (j : ℕ). j * places) (cell-level places x l y m hx hy e) in
     omega arith
@@ -47,10 +47,6 @@ module _ {code pattern : List ℕ} {places cells : ℕ} (w : Wired code pattern 
   -- the pair's entry is inside
   pub cell-inside : level * places + x < cells
   cell-inside = omega (arith, mul-le-mul-right places low, w .room x inside)
-
-  -- and so is its level
-  pub level-inside : level < cells
-  level-inside = omega (arith, le-mul-of-pos-right {m = places} level (omega arith), cell-inside)
 
   -- the level at the follower of a place that leads on is within the follower's depth
   pub deep-after : 0 < placeKindAt code x → placeKindAt code x < 6 → levelAfter (placeKindAt code x) level ≤ w .deep (placeNextAt code x)
@@ -71,7 +67,7 @@ module _ {code pattern : List ℕ} {places cells : ℕ} (w : Wired code pattern 
 
 -- ---- the place at an index
 
-pub decode-long : (table pattern : List ℕ) (n : ℕ) → length (decode table pattern n) ≡ n
+decode-long : (table pattern : List ℕ) (n : ℕ) → length (decode table pattern n) ≡ n
 decode-long table pattern zero = refl
 decode-long table pattern (suc n) =
     length-append (decode table pattern n) (placeAt table pattern n ∷ []) ∙ (ap (λ (k : ℕ). k + 1) (decode-long table pattern n) ∙ add-one n)

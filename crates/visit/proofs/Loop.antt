@@ -317,7 +317,7 @@ module _ {code pattern : List ℕ} {there : Bool} {byte places p : ℕ} {seen₀
       unstamped = not-true (eqb (getD seen (floor + x) 0) (p + 1)) (sym (was .0) ∙ new)
 
       -- one entry less without the stamp
-      pub marked-lacking : suc (lacking (p + 1) seen′) ≡ lacking (p + 1) seen
+      marked-lacking : suc (lacking (p + 1) seen′) ≡ lacking (p + 1) seen
       marked-lacking = ap (λ (table : List ℕ). suc (lacking (p + 1) table)) (was .1) ∙ lacking-mark (p + 1) seen (floor + x) turn-cell unstamped
 
       -- on level 0 also among the first

@@ -58,7 +58,7 @@ Waits places deep pending unseen (suc n) (t ∷ ts) = Waiter places deep pending
 
 module _ (places : ℕ) (deep : ℕ → ℕ) (pending pending′ : List ℕ) (unseen unseen′ : ℕ) (long : length pending′ ≡ length pending) (fewer : unseen′ ≤ unseen) where
   -- a memory that agrees with another below an index has the same branches there
-  pub waits-kept : (n : ℕ) (ts : List Thread) → ((j : ℕ) → j < 22 * n → getD pending′ j 0 ≡ getD pending j 0)
+  waits-kept : (n : ℕ) (ts : List Thread) → ((j : ℕ) → j < 22 * n → getD pending′ j 0 ≡ getD pending j 0)
       → Waits places deep pending unseen n ts → Waits places deep pending′ unseen′ n ts
   waits-kept zero [] same w = tt
   waits-kept zero (t ∷ ts) same w = w
@@ -95,7 +95,7 @@ module _ (pending : List ℕ) (n floor place : ℕ) (rows : Rows) (rows-long : l
   pub waited-long : length (waited pending n floor place rows) ≡ length pending
   waited-long = stored-long floored (22 * n + 1) place rows rows-long floored-room ∙ length-set pending (22 * n) floor
 
-  pub waited-before : (j : ℕ) → j < 22 * n → getD (waited pending n floor place rows) j 0 ≡ getD pending j 0
+  waited-before : (j : ℕ) → j < 22 * n → getD (waited pending n floor place rows) j 0 ≡ getD pending j 0
   waited-before j h =
       stored-before floored (22 * n + 1) place rows rows-long floored-room j (omega arith) ∙ getD-set-other pending (22 * n) j floor 0 (λ e. omega arith)
 
