@@ -71,13 +71,15 @@ uint32_t toj_piece(const uint8_t *template_, size_t template_len, const uint8_t 
 
 /* Builds the machine of a pattern into `machine` (toj_machine_numbers() numbers or more), for search
  * if `search` is not 0, else for whole matches. out (3): the machine's places and depth, which for
- * whole matches are the pattern's, and the pattern's groups. Refusals: 1 to 8. */
+ * whole matches are the pattern's, and the pattern's groups. Refusals: 1 to 8. The machine takes 3
+ * numbers and 4 for each of its places; the numbers of `machine` after those stay. */
 uint32_t toj_build(const uint8_t *pattern, size_t pattern_len, uint32_t search,
                    uint16_t *machine, size_t machine_len, uint64_t *out, size_t out_len);
 
 /* Runs a built machine over a line: out, `table` and the answer as toj_match or toj_search, by what
  * the machine was built for. `seen`, `taken`, `lists` and `pending` (toj_scratch_numbers() numbers
- * or more each) may hold anything before and after. Refusals: 11, 12, 14.
+ * or more each) may hold anything before, and after an answer; any other status leaves them as they
+ * were. Refusals: 11, 12, 14.
  * REQUIRES: `machine` is as toj_build, answering TOJ_ANSWERED, left it for this very pattern. */
 uint32_t toj_run(const uint8_t *pattern, size_t pattern_len, const uint16_t *machine, size_t machine_len,
                  const uint8_t *line, size_t line_len, uint16_t *seen, size_t seen_len,

@@ -1,3 +1,4 @@
 -- What the proofs of the exported calls cite.
-pub mod Keeping
+pub mod Refusals
 pub mod OneReply
+pub mod BuildThenRun

@@ -14,8 +14,8 @@ use Rattle.matcher.specs.Promise.{Matches, Searches, Answers}
 use Rattle.replacer.specs.declared.Replaced as replacing
 use Rattle.replacer.specs.Answer as replaced
 use Rattle.replacer.specs.Promise.{Replaces}
-use Rattle.telling.specs.Told.{tooShort, Tells, checkNumbers, foundNumbers, spanNumbers, replacedNumbers, builtNumbers}
-use Rattle.exports.specs.Memory.{machineNumbers, scratchNumbers, searchesIn, shortest, BuildsIn}
+use Rattle.telling.specs.Told.{answered, tooShort, Tells, checkNumbers, foundNumbers, spanNumbers, replacedNumbers, builtNumbers}
+use Rattle.memory.specs.Memory.{machineNumbers, scratchNumbers, searchesIn, Memories, shortest, BuildsIn}
 
 -- refused as too short, `out` as it was
 abbrev pub Untouched : List ℕ → ℕ → List ℕ → Type 0
@@ -54,10 +54,12 @@ pub record BuildReplies (pattern : List ℕ) (searches : Bool) (machine machine�
   pub told : 3 ≤ length out → machineNumbers ≤ length machine
       → (r : Built) × BuildsIn pattern searches machine machine′ r × Tells (builtNumbers r) out status after
 
--- `toj_run`: what a whole match or a search promises, by what the machine was built for; its scratch, which may hold anything, is long enough or not
-pub record RunReplies (pattern machine line : List ℕ) (scratch : ℕ) (table table′ out : List ℕ) (status : ℕ) (after : List ℕ) : Type 0 where
+-- `toj_run`: what a whole match or a search promises, by what the machine was built for. An answer may leave anything in the four memories that it was run in;
+-- any other status leaves them as they were
+pub record RunReplies (pattern machine line : List ℕ) (lent lent′ : Memories) (table table′ out : List ℕ) (status : ℕ) (after : List ℕ) : Type 0 where
   pub short : length out < 2 → Untouched out status after × (table′ ≡ table)
   pub small : length machine < machineNumbers → Untouched out status after × (table′ ≡ table)
-  pub narrow : scratch < scratchNumbers → Untouched out status after × (table′ ≡ table)
-  pub told : 2 ≤ length out → machineNumbers ≤ length machine → scratchNumbers ≤ scratch
+  pub narrow : shortest lent < scratchNumbers → Untouched out status after × (table′ ≡ table)
+  pub told : 2 ≤ length out → machineNumbers ≤ length machine → scratchNumbers ≤ shortest lent
       → (r : matching.Answer) × Answers (searchesIn machine) pattern line table r table′ × Tells (foundNumbers (found.answerOf r)) out status after
+  pub kept : (status ≡ answered → ⊥) → lent′ ≡ lent

@@ -4,7 +4,6 @@ use telling::tell_checked;
 use telling::tell_found;
 use telling::tell_piece;
 use telling::tell_replaced;
-ghost use mathlib.Core.Path.{_≡_};
 ghost use Rattle.exports.specs.Replies.{CheckReplies, MatchReplies, SearchReplies, ReplaceReplies, PieceReplies};
 
 // Checks a pattern, and tells its places, depth and groups.

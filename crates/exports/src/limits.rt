@@ -1,23 +1,12 @@
 // The limits, and how long lent memory has to be.
+use memory::Memory;
 use pattern::Line;
 use pattern::Pattern;
 use pattern::Spans;
 use pattern::Template;
 ghost use mathlib.Core.Path.{_≡_};
 ghost use Rattle.paper.specs.Limits.{patternBytes, templateBytes, lineBytes, rowCount, tableNumbers};
-ghost use Rattle.exports.specs.Memory.{headNumbers, machineNumbers, scratchNumbers};
-
-// The memory of the built variants.
-pub struct Memory {}
-
-impl Memory {
-    // a machine's places, its depth, and whether it searches
-    pub const HEAD: usize = 3;
-    // these, and its table
-    pub const MACHINE: usize = Memory::HEAD + machine::Machine::CODE;
-    // the branches that wait, which are the longest thing that a run needs
-    pub const SCRATCH: usize = machine::Machine::PENDING;
-}
+ghost use Rattle.memory.specs.Memory.{machineNumbers, scratchNumbers};
 
 // The longest pattern.
 #[no_mangle]

@@ -10,6 +10,7 @@ use lib.Dec.{eqb}
 use Rattle.paper.specs.Pattern.{Mode}
 use Rattle.paper.specs.Machine.{Core, skip, must, maybe, star, size, passFork, begin, beginOptional, ending}
 use Rattle.pattern.specs.Walk.{passPlaces}
+use Rattle.pattern.proofs.Counting.{no-pass}
 use Rattle.laying.specs.Laid.{Holds, entryOf, Lays}
 use Rattle.laying.specs.Repeats.{optionalCore, passCore, innerStart}
 
@@ -43,9 +44,7 @@ passes-some (suc least) may p e = absurd (omega (arith, suc-mul least (1 + p)))
 
 -- without passes there are no places
 pub passes-none : (least may p : ℕ) → least + may ≡ 0 → passPlaces least may p ≡ 0
-passes-none zero zero p e = omega (arith, zero-mul (3 + p), zero-mul (1 + p))
-passes-none zero (suc may) p e = absurd (omega arith)
-passes-none (suc least) may p e = absurd (omega arith)
+passes-none least may p e = no-pass least may p (omega arith)
 
 -- the first pass of a run, and the rest
 pub places-must : (least may p : ℕ) → (least ≡ 0 → ⊥) → passPlaces least may p ≡ 1 + p + passPlaces (least - 1) may p

@@ -1,14 +1,16 @@
 -- What checking found and building wrote make a machine that is ready.
-use Prim.Native.Nat.{ℕ, _-_, max, _≤_, _<_}
+use Prim.Native.Nat.{ℕ, _+_, _-_, _*_, max, _≤_, _<_}
 use native.Mathlib.Omega.{arith}
 use mathlib.Core.Path.{_≡_, refl, sym, ap, subst, _∙_}
 use mathlib.Core.Bool.{Bool, true, false}
 use mathlib.Core.List.{List}
-use lib.ListN.{length, getD}
+use lib.ListN.{length, getD, drop, length-drop}
+use lib.Seq.{getD-drop, ext-getD}
 use Rattle.paper.specs.Refusal.{Checked, refused, accepted, _>>=_}
 use Rattle.paper.specs.Pattern.{Pattern, allPlaces, depth, groups}
 use Rattle.paper.specs.Check.{patternOf, Numbers, numbersOf}
-use Rattle.paper.specs.Machine.{placesOf}
+use Rattle.paper.specs.Machine.{Place, placesOf}
+use Rattle.paper.specs.Tables.{placeNumbers}
 use Rattle.paper.proofs.layout.Lawful.{accepted-lawful}
 use Rattle.paper.proofs.machine.Sizes.{places-wrap, depth-wrap}
 use Rattle.pattern.specs.declared.Answer.{Answer}
@@ -53,6 +55,14 @@ fault-of {pattern} {r} {number} {place} checked is = look (patternOf pattern) re
     look (refused number′ place′) is e = let same : _≡_ {A = Checked Pattern} (refused number′ place′) (refused number place) = cc in is ∙ same
     look (accepted tree) is e = cc
 
+-- what stands behind the places of a table that was built into is as it was
+behind-places : {list : List Place} {count : ℕ} {pattern before after : List ℕ} → places.Built list count pattern before after
+    → drop (placeNumbers * count) after ≡ drop (placeNumbers * count) before
+behind-places {count = count} {before = before} {after} built =
+    let n = placeNumbers * count in
+    ext-getD 0 (drop n after) (drop n before) (length-drop n after ∙ ap (λ (k : ℕ). k - n) (built .same-length) ∙ sym (length-drop n before))
+    (λ i h. getD-drop n after i 0 ∙ built .untouched (n + i) (omega arith) ∙ sym (getD-drop n before i 0))
+
 module _ (pattern before after : List ℕ) (bytes : (i : ℕ) → getD pattern i 0 < 256) (room : tableRoom ≤ length before) where
   -- a table that holds the places of the pattern to be built
   ready : (searches : Bool) (e : Pattern) (count deep : ℕ) → patternOf pattern ≡ accepted e → count ≡ allPlaces (wrapped searches e)
@@ -78,10 +88,11 @@ module _ (pattern before after : List ℕ) (bytes : (i : ℕ) → getD pattern i
   builds-match {count} {n} {d} {g} searches is t built =
       let e = t .tree in
       let same = built .count-is e (t .found) in
+      let laid = subst (λ (n : ℕ). places.Built (placesOf e 1) n pattern before after) (sym same) (built .built e (t .found)) in
       subst (λ (b : Bool). Builds pattern b before after (Machine count d g)) (sym is) (
-        ready false e count d (t .found) same (t .deep-is)
-            (subst (λ (n : ℕ). places.Built (placesOf e 1) n pattern before after) (sym same) (built .built e (t .found))),
+        ready false e count d (t .found) same (t .deep-is) laid,
         t .many-are,
+        behind-places laid,
       )
 
   -- for a search
@@ -91,10 +102,11 @@ module _ (pattern before after : List ℕ) (bytes : (i : ℕ) → getD pattern i
   builds-search {count} {n} {d} {g} {deep = deep} searches is low t built =
       let e = t .tree in
       let same = built .count-is e (t .found) in
+      let laid = subst (λ (n : ℕ). places.Built (placesOf (wrapped true e) 0) n pattern before after) (sym same) (built .built e (t .found)) in
       subst (λ (b : Bool). Builds pattern b before after (Machine count deep g)) (sym is) (
-        ready true e count deep (t .found) (same ∙ sym (places-wrap e)) (low ∙ ap (max 1) (t .deep-is) ∙ sym (depth-wrap e))
-            (subst (λ (n : ℕ). places.Built (placesOf (wrapped true e) 0) n pattern before after) (sym same) (built .built e (t .found))),
+        ready true e count deep (t .found) (same ∙ sym (places-wrap e)) (low ∙ ap (max 1) (t .deep-is) ∙ sym (depth-wrap e)) laid,
         t .many-are,
+        behind-places laid,
       )
 
 -- what building promises, where its answer is known

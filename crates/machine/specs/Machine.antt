@@ -42,10 +42,13 @@ pub record Ready (pattern code : List ℕ) (searches : Bool) (places deep : ℕ)
   pub decoded : decode code pattern places ≡ placesOf (wrapped searches tree) (firstGroup searches)
   pub readable : (x : ℕ) → x < places → Readable code pattern x
 
--- what building promises: the refusals of checking, which leave the table as it was, or the machine's numbers and its table
+-- what building promises: the refusals of checking, which leave the table as it was, or the machine's numbers and its table, behind whose places nothing has changed
 abbrev pub Builds : List ℕ → Bool → List ℕ → List ℕ → Built → Type 0
 Builds pattern searches before after (Refused number place) = (patternOf pattern ≡ refused number place) × (after ≡ before)
-Builds pattern searches before after (Machine places deep many) = (m : Ready pattern after searches places deep) × (many ≡ groups (m .tree))
+Builds pattern searches before after (Machine places deep many) =
+    (m : Ready pattern after searches places deep)
+    × (many ≡ groups (m .tree))
+    × (drop (placeNumbers * places) after ≡ drop (placeNumbers * places) before)
 
 -- how many numbers the two lists of threads have, each with an entry more for the winner, and the branches that wait
 abbrev pub listsNumbers : ℕ → ℕ

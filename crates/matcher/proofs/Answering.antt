@@ -179,3 +179,11 @@ module _ (searches : Bool) (pattern line lent : List ℕ) where
           bounded f s q =
               let one : e ≡ f = cc in
               subst (λ (t : Pattern). stepsTold r ≤ boundOf searches t (length line)) one (omega (arith, found-bound searches e line))
+
+      -- which is no refusal: within the limits 14 never is
+      pub not-refused : {matched : Bool} {steps : ℕ} (rows : Rows) {r : Answer} → FoundGives searches pattern line matched steps rows
+          → TellsSteps matched steps r → (number place : ℕ) → r ≡ Refused number place → ⊥
+      not-refused {steps = steps} rows {r} given tells number place is =
+          let few : steps ≤ mostSteps = omega (arith, gives given .steps-are, few-steps searches e line lawful short) in
+          let z : _≡_ {A = ℕ} 0 1 = cc (ap answerOf is, tells .never few) in
+          omega arith

@@ -1,10 +1,10 @@
 -- What records add up to: the counts of a pattern are small, and a record's places and groups are those that its kind gives from what stands
 -- inside it. A loop over records in a row keeps what is summed so far beside what is still to come.
-use Prim.Native.Nat.{ℕ, zero, suc, _+_, _-_, _*_, _≤_, _<_}
+use Prim.Native.Nat.{ℕ, zero, suc, _+_, _-_, _≤_, _<_}
 use mathlib.Core.Path.{_≡_, refl, sym, ap, subst, _∙_}
 use mathlib.Core.Bool.{Bool, true, false, cond}
 use mathlib.Core.List.{List, [], _∷_}
-use native.Mathlib.Nat.{le-trans, mul-le-mul-left, mul-le-mul-right}
+use native.Mathlib.Nat.{mul-le-mul-right, min-eq-left}
 use native.Mathlib.Omega.{arith}
 use borrow.Author.Tests.{ne-eqb, lt-ltb}
 use lib.Dec.{ltb}
@@ -16,13 +16,10 @@ use Rattle.paper.specs.Pattern as pattern
 use Rattle.paper.specs.Layout.{upperNumber}
 use Rattle.paper.specs.Check.{numberAt, kindAt, bodyStart, bodyEnd, upperOf, repeatHead}
 use Rattle.paper.proofs.layout.MemberList.{listOf}
-use Rattle.pattern.specs.Walk.{placesIn, groupsIn}
-use Rattle.places.specs.Sums.{Capped, insideStart, CountsRight, ownPlaces, OwnPlaces, ownGroups, Counting, Summed, Counted}
+use Rattle.pattern.specs.Walk.{capped, optionalPasses, placesIn, groupsIn}
+use Rattle.pattern.proofs.Counting.{repeat-passes}
+use Rattle.places.specs.Sums.{insideStart, CountsRight, ownPlaces, OwnPlaces, ownGroups, Counting, Summed, Counted}
 use Rattle.places.specs.Standing.{UpperRight, Passes, Stands, AllStand, Row}
-
--- a product of counts is small
-pub product-small : (m p : ℕ) → m ≤ 255 → p ≤ 504 → m * p ≤ 128520
-product-small m p few small = le-trans (mul-le-mul-right p few) (mul-le-mul-left 255 small)
 
 -- the records inside a record
 abbrev pub held : Pattern → List Pattern
@@ -116,10 +113,12 @@ own-places (alternation ms) bs at p k h same count small =
     ∙ omega (arith, members-places ms, members-count ms, same (omega (arith, members-places ms)))
 own-places (repeat least upper mode e) bs at p k h same count small =
     ap (λ (n : ℕ). ownPlaces bs n (bodyStart at) p k) (h .0)
-    ∙ ap (λ (n : ℕ). repeatPlaces n (upperOf (numberAt bs (bodyStart at + 2))) p) (h .1 .least-is)
-    ∙ ap (λ (n : ℕ). repeatPlaces least (upperOf n) p) (h .1 .upper-is)
-    ∙ ap (λ (u : Upper). repeatPlaces least u p) (upper-named upper least (h .1 .right))
-    ∙ repeat-cut least upper (places e) p (h .1 .right) (λ le. same (omega arith) ∙ omega arith) small
+    ∙ ap capped (repeat-passes (numberAt bs (bodyStart at)) (upperOf (numberAt bs (bodyStart at + 2))) p)
+    ∙ ap (λ (n : ℕ). capped (repeatPlaces n (upperOf (numberAt bs (bodyStart at + 2))) p)) (h .1 .least-is)
+    ∙ ap (λ (n : ℕ). capped (repeatPlaces least (upperOf n) p)) (h .1 .upper-is)
+    ∙ ap (λ (u : Upper). capped (repeatPlaces least u p)) (upper-named upper least (h .1 .right))
+    ∙ ap capped (repeat-cut least upper (places e) p (h .1 .right) (λ le. same (omega arith) ∙ omega arith) small)
+    ∙ min-eq-left small
 
 -- so are its groups
 pub own-groups : (e : Pattern) (bs : List ℕ) (at : ℕ) → Stands bs at e → ownGroups (kindAt bs at) (groupsIn (held e)) ≡ groups e
@@ -144,8 +143,12 @@ held-groups (repeat least upper mode e) = omega arith
 -- the counts of a repeat that stands are right
 pub counts-right : {bs : List ℕ} {start least : ℕ} {upper : Upper} {mode : Mode} → Passes bs start least upper mode
     → CountsRight (numberAt bs start) (numberAt bs (start + 2))
-counts-right {upper = upTo most} h = record { small = omega arith; right = λ f. (omega arith, omega arith) }
-counts-right {upper = noEnd} h = record { small = omega arith; right = λ f. absurd (f (h .upper-is)) }
+counts-right {bs} {start} {least} {upper = upTo most} h =
+    let named : upperOf (numberAt bs (start + 2)) ≡ upTo most = ap upperOf (h .upper-is) ∙ upper-named (upTo most) least (h .right) in
+    record { small = omega arith; ordered = omega arith; few = omega (arith, ap (optionalPasses (numberAt bs start)) named) }
+counts-right {bs} {start} {least} {upper = noEnd} h =
+    let named : upperOf (numberAt bs (start + 2)) ≡ noEnd = ap upperOf (h .upper-is) in
+    record { small = omega arith; ordered = omega arith; few = omega (arith, ap (optionalPasses (numberAt bs start)) named) }
 
 -- an alternation has a record inside, and a repeat its three numbers
 alternation-some : (e : Pattern) (bs : List ℕ) (at : ℕ) → Stands bs at e → kindAt bs at ≡ 5 → 1 ≤ length (held e)
@@ -177,7 +180,7 @@ repeat-right (alternation ms) bs at h six = absurd (omega (arith, h .0))
 repeat-right (repeat least upper mode e) bs at h six = counts-right (h .1)
 
 -- what `own_places` asks holds of a record that stands
-pub own-asked : (e : Pattern) (bs : List ℕ) (at p k : ℕ) → Stands bs at e → bodyEnd bs at ≤ length bs → length bs ≤ 4096 → p ≤ 501
+pub own-asked : (e : Pattern) (bs : List ℕ) (at p k : ℕ) → Stands bs at e → bodyEnd bs at ≤ length bs → length bs ≤ 4096 → p ≤ 500
     → k ≡ length (held e) → OwnPlaces bs (kindAt bs at) (bodyStart at) p k
 own-asked e bs at p k h ends short small count =
     record {
@@ -207,7 +210,7 @@ pub record Rest (bs : List ℕ) (at stop : ℕ) (all : List Pattern) (p g k : �
 
 -- what the loop over a row keeps: the sum so far is cut, and with the rest it makes the whole for every tree
 pub record Adding (bs : List ℕ) (at stop from p g k : ℕ) : Type 0 where
-  pub small : p ≤ 501
+  pub small : p ≤ 500
   pub passed : at + k ≤ from
   pub before : from ≤ stop
   pub rest : (m : Counting bs at stop) → Rest bs from stop (m .records) p g k
@@ -250,7 +253,7 @@ first-inside {bs} {at} f =
 -- one record more: its places, cut, and its groups are added
 more-rest : {bs : List ℕ} {from stop p g k ip ig ik q : ℕ} {all : List Pattern} → stop ≤ length bs → length bs ≤ 4096 → groupsIn all ≤ 10 → from < stop
     → Counted bs (insideStart (kindAt bs from) (bodyStart from) (bodyEnd bs from)) (bodyEnd bs from) ip ig ik
-    → Capped (p + ownPlaces bs (kindAt bs from) (bodyStart from) ip ik) q
+    → q ≡ capped (p + ownPlaces bs (kindAt bs from) (bodyStart from) ip ik)
     → Rest bs from stop all p g k → Rest bs (bodyEnd bs from) stop all q (g + ownGroups (kindAt bs from) ig) (k + 1)
 more-rest {bs} {from} {stop} {p} {g} {k} {ip} {ig} {ik} {q} {all} ends short few lt c cut r = on (r .records) (r .stand) (r .places-left) (r .groups-left) (r .count-left)
   where
@@ -275,7 +278,7 @@ more-rest {bs} {from} {stop} {p} {g} {k} {ip} {ig} {ik} {q} {all} ends short few
           places-left = λ le.
               let here : ownPlaces bs (kindAt bs from) (bodyStart from) ip ik ≡ places e =
               own-places e bs from ip ik (h .0) (s .places-are) (s .records-are) (omega (arith, ps le)) in
-              omega (arith, ps le, cut .same (omega (arith, ps le)));
+              omega (arith, ps le, cut);
           groups-left = omega arith;
           count-left = omega arith;
         }
@@ -283,12 +286,12 @@ more-rest {bs} {from} {stop} {p} {g} {k} {ip} {ig} {ik} {q} {all} ends short few
 -- a turn of the loop
 pub adding-more : {bs : List ℕ} {at stop from p g k ip ig ik q : ℕ} → Counting bs at stop → Adding bs at stop from p g k → from < stop
     → Counted bs (insideStart (kindAt bs from) (bodyStart from) (bodyEnd bs from)) (bodyEnd bs from) ip ig ik
-    → Capped (p + ownPlaces bs (kindAt bs from) (bodyStart from) ip ik) q
+    → q ≡ capped (p + ownPlaces bs (kindAt bs from) (bodyStart from) ip ik)
     → Adding bs at stop (bodyEnd bs from) q (g + ownGroups (kindAt bs from) ig) (k + 1)
 adding-more m a lt c cut =
     let f = first m a lt in
     record {
-      small = cut .small;
+      small = omega (arith, cut);
       passed = omega arith;
       before = f .fits;
       rest = λ n. more-rest (n .ends) (n .short) (n .few) lt c cut (a .rest n);
@@ -306,7 +309,7 @@ adding-all {bs} {at} {stop} {from} {p} {g} {k} a le =
 
 -- a record without records inside, by itself
 pub alone-counted : {bs : List ℕ} {at stop kind own q : ℕ} → Counting bs at stop → bodyEnd bs at ≡ stop → kind ≡ kindAt bs at → kind < 3
-    → own ≡ ownPlaces bs kind (bodyStart at) 0 0 → Capped own q → Counted bs at stop q 0 1
+    → own ≡ ownPlaces bs kind (bodyStart at) 0 0 → q ≡ capped (0 + own) → Counted bs at stop q 0 1
 alone-counted {bs} {at} {stop} {kind} {own} {q} m ends ek leaf eo cut =
     let some : at < stop = omega (arith, ends) in
     let few : ltb (kindAt bs at) 3 ≡ true = lt-ltb (kindAt bs at) 3 (omega (arith, ek)) in
@@ -314,7 +317,7 @@ alone-counted {bs} {at} {stop} {kind} {own} {q} m ends ek leaf eo cut =
     ap (λ (b : Bool). cond b (bodyEnd bs at) (cond (ltb (kindAt bs at) 6) (bodyStart at) (bodyStart at + repeatHead))) few in
     let none = adding-all (adding-none (first-inside (first m (adding-none m) some))) (omega (arith, at-end)) in
     let same : own ≡ ownPlaces bs (kindAt bs at) (bodyStart at) 0 0 = eo ∙ ap (λ (k : ℕ). ownPlaces bs k (bodyStart at) 0 0) ek in
-    let own-cut : Capped (0 + ownPlaces bs (kindAt bs at) (bodyStart at) 0 0) q = subst (λ (n : ℕ). Capped n q) (omega (arith, same)) cut in
+    let own-cut : q ≡ capped (0 + ownPlaces bs (kindAt bs at) (bodyStart at) 0 0) = cut ∙ ap (λ (n : ℕ). capped (0 + n)) same in
     let group-less : ownGroups (kindAt bs at) 0 ≡ 0 = ap (λ (b : Bool). cond b 1 0) (ne-eqb (kindAt bs at) 3 (λ e. omega (arith, ek))) in
     let no-groups : 0 + ownGroups (kindAt bs at) 0 ≡ 0 = omega (arith, group-less) in
     subst (λ (g : ℕ). Counted bs at stop q g 1) no-groups (adding-all (adding-more m (adding-none m) some none own-cut) (omega (arith, ends)))
@@ -350,6 +353,6 @@ module _ {bs : List ℕ} {kind len r : ℕ} (from : ℕ) (ek : kind ≡ kindAt b
 
   -- a turn of the loop
   pub adding-turn : {at stop p g k ip ig ik own q og : ℕ} → Counting bs at stop → Adding bs at stop from p g k → from < stop
-      → Counted bs r (from + 4 + len) ip ig ik → own ≡ ownPlaces bs kind (from + 4) ip ik → Capped (p + own) q → og ≡ ownGroups kind ig
+      → Counted bs r (from + 4 + len) ip ig ik → own ≡ ownPlaces bs kind (from + 4) ip ik → q ≡ capped (p + own) → og ≡ ownGroups kind ig
       → Adding bs at stop (from + 4 + len) q (g + og) (k + 1)
   adding-turn m a lt c eo cut eg = rw (eg, ek, el) (adding-more m a lt (read-counted c) (rw (eo, ek) at cut))

@@ -5,14 +5,14 @@ use mathlib.Core.Bool.{Bool, true, false, cond}
 use mathlib.Core.List.{List}
 use native.Mathlib.Omega.{arith}
 use lib.Dec.{eqb}
-use Rattle.paper.specs.Pattern.{Mode, Upper, upTo, noEnd, places, repeatPlaces}
+use Rattle.paper.specs.Pattern.{Mode, upTo, noEnd, places, repeatPlaces}
 use Rattle.paper.specs.Pattern.Pattern.{repeat}
-use Rattle.paper.specs.Layout.{upperNumber}
 use Rattle.paper.specs.Check.{numberAt, upperOf, modeOf, repeatHead}
 use Rattle.paper.specs.Machine.{Core, writtenOut, musts, optionals}
 use Rattle.paper.proofs.machine.Sizes.{size-written}
 use Rattle.paper.proofs.layout.RepeatBody.{mode-of-number}
 use Rattle.pattern.specs.Walk.{optionalPasses, passPlaces}
+use Rattle.pattern.proofs.Counting as counting
 use Rattle.laying.specs.Laid.{Kept, Lays}
 use Rattle.laying.specs.Copies.{inPlace}
 use Rattle.laying.specs.Repeats.{passCore, innerStart, Repeating, PassesLaid, Passed, PassedInside}
@@ -20,13 +20,7 @@ use Rattle.laying.proofs.Stores.{kept-both}
 use Rattle.laying.proofs.Entering.{passes-none, first-inner}
 use Rattle.laying.proofs.Sizes.{optional-maybes}
 use Rattle.places.specs.Walk.{One, OneLaid, Repeat, RepeatLaid}
-use Rattle.places.specs.Standing.{UpperRight}
-use Rattle.places.proofs.Adding.{upper-named}
-
--- with an upper end and without: the places of the passes are the repeat's
-passes-places : (least : ℕ) (upper : Upper) (p : ℕ) → repeatPlaces least upper p ≡ passPlaces least (optionalPasses least upper) p
-passes-places least noEnd p = omega arith
-passes-places least (upTo most) p = refl
+use Rattle.places.proofs.Adding.{upper-named, counts-right}
 
 -- they are the repeat written out
 passes-core : (endless : Bool) (least most : ℕ) (mode : Mode) (first g : ℕ) (e : Core)
@@ -52,19 +46,15 @@ module _ {bs : List ℕ} {start stop base next first n g least most mode : ℕ} 
   mode-is : modeOf mode ≡ m .mode
   mode-is = ap modeOf (ed ∙ m .numbers .mode-is) ∙ mode-of-number (m .mode)
 
-  no-less : (u : Upper) → most ≡ upperNumber u → UpperRight (m .least) u → m .least ≤ most
-  no-less (upTo k) e right = omega arith
-  no-less noEnd e right = omega (arith, m .numbers .small)
-
   -- the most is no less than the least
   pub counts-ordered : least ≤ most
-  counts-ordered = omega (arith, least-is, no-less (m .upper) (em ∙ m .numbers .upper-is) (m .numbers .right))
+  counts-ordered = omega (arith, el, em, counts-right (m .numbers) .ordered)
 
   -- the places of the passes are the repeat's
   pub total : {may : ℕ} → may ≡ optionalPasses least (upperOf most) → n ≡ passPlaces least may (places (m .tree))
   total {may} ey =
       let e : repeatPlaces (m .least) (m .upper) (places (m .tree)) ≡ repeatPlaces least (upperOf most) (places (m .tree)) = rw (least-is, upper-is) in
-      m .places-are ∙ e ∙ passes-places least (upperOf most) (places (m .tree)) ∙ ap (λ (k : ℕ). passPlaces least k (places (m .tree))) (sym ey)
+      m .places-are ∙ e ∙ sym (counting.repeat-passes least (upperOf most) (places (m .tree))) ∙ ap (λ (k : ℕ). passPlaces least k (places (m .tree))) (sym ey)
 
   -- there is a pass
   pub some-pass : {may : ℕ} → may ≡ optionalPasses least (upperOf most) → least + may ≡ 0 → ⊥

@@ -1,5 +1,5 @@
 -- The promise of building: the table holds exactly the places that paper lists for an accepted pattern, and whoever reads them stays in range.
-use Prim.Native.Nat.{ℕ, _+_, _*_, _≤_, _<_}
+use Prim.Native.Nat.{ℕ, _*_, _≤_, _<_}
 use mathlib.Core.Path.{_≡_}
 use mathlib.Core.List.{List}
 use lib.ListN.{length, getD}

@@ -5,33 +5,25 @@ use mathlib.Core.Bool.{cond}
 use mathlib.Core.List.{List}
 use lib.Dec.{ltb, eqb}
 use lib.ListN.{length}
-use Rattle.paper.specs.Limits.{patternBytes, patternPlaces, rowCount, repeatCount, noUpperEnd}
-use Rattle.paper.specs.Pattern.{Pattern, repeatPlaces}
+use Rattle.paper.specs.Limits.{patternBytes, patternPlaces, rowCount, repeatCount}
+use Rattle.paper.specs.Pattern.{Pattern}
 use Rattle.paper.specs.Check.{numberAt, repeatHead, upperOf}
-use Rattle.pattern.specs.Walk.{placesIn, groupsIn}
+use Rattle.pattern.specs.Walk.{capped, optionalPasses, passPlaces, placesIn, groupsIn}
 use Rattle.places.specs.Standing.{Row}
 
--- a count of places is cut here: one more than a pattern may have
-abbrev pub mostCounted : ℕ
-mostCounted = patternPlaces + 1
-
--- no record has more places than this when those inside it are cut
+-- no record has more places than this when those inside it are counted up to the limit
 abbrev pub mostOwn : ℕ
-mostOwn = 300000
-
--- `capped`: the same number, where a pattern may have so many places
-pub record Capped (n r : ℕ) : Type 0 where
-  pub same : n ≤ patternPlaces → r ≡ n
-  pub small : r ≤ mostCounted
+mostOwn = patternPlaces + patternBytes
 
 -- where the records inside a record start, by the number of its kind
 abbrev pub insideStart : ℕ → ℕ → ℕ → ℕ
 insideStart kind start end = cond (ltb kind 3) end (cond (ltb kind 6) start (start + repeatHead))
 
--- the numbers of a repeat are right: a least, and a most that is no less, or none
+-- the numbers of a repeat are right: a most that is no less than the least, and few passes
 pub record CountsRight (least most : ℕ) : Type 0 where
   pub small : least ≤ repeatCount
-  pub right : (most ≡ noUpperEnd → ⊥) → (least ≤ most) × (most ≤ repeatCount)
+  pub ordered : least ≤ most
+  pub few : optionalPasses least (upperOf most) ≤ repeatCount
 
 -- the places of a record by the number of its kind, from the places and the number of the records inside it
 abbrev pub ownPlaces : List ℕ → ℕ → ℕ → ℕ → ℕ → ℕ
@@ -39,10 +31,11 @@ ownPlaces bs kind start p k =
     cond (ltb kind 3) (cond (eqb kind 1) 0 1)
     (cond (eqb kind 3) (p + 2)
     (cond (eqb kind 4) p
-    (cond (eqb kind 5) (p + (k - 1)) (repeatPlaces (numberAt bs start) (upperOf (numberAt bs (start + 2))) p))))
+    (cond (eqb kind 5) (p + (k - 1))
+    (capped (passPlaces (numberAt bs start) (optionalPasses (numberAt bs start) (upperOf (numberAt bs (start + 2)))) p)))))
 
 pub record OwnPlaces (bs : List ℕ) (kind start p k : ℕ) : Type 0 where
-  pub places-small : p ≤ mostCounted
+  pub places-small : p ≤ patternPlaces
   pub records-small : k ≤ patternBytes
   pub some : kind ≡ 5 → 1 ≤ k
   pub here : 5 < kind → start + 4 ≤ length bs
@@ -66,5 +59,5 @@ pub record Summed (records : List Pattern) (p g k : ℕ) : Type 0 where
   pub records-are : k ≡ length records
 
 pub record Counted (bs : List ℕ) (at stop p g k : ℕ) : Type 0 where
-  pub small : p ≤ mostCounted
+  pub small : p ≤ patternPlaces
   pub sums : (m : Counting bs at stop) → Summed (m .records) p g k

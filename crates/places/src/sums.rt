@@ -1,30 +1,18 @@
 // What records that stand one after another add up to: their places, their groups and how many they are.
 use pattern::Kind;
-use pattern::Pattern;
+use pattern::counts;
 use records::number_at;
 ghost use mathlib.Core.Path.{_≡_};
 ghost use Prim.Native.Nat.{_+_, _*_, _≤_};
 ghost use Rattle.paper.specs.Limits.{patternBytes, rowCount};
-ghost use Rattle.paper.specs.Pattern.{repeatPlaces};
-ghost use Rattle.paper.specs.Check.{bodyEnd, upperOf};
-ghost use Rattle.places.specs.Sums.{mostCounted, mostOwn, Capped, insideStart, CountsRight, ownPlaces, OwnPlaces, ownGroups, Counting, Counted};
+ghost use Rattle.paper.specs.Check.{bodyEnd};
+ghost use Rattle.places.specs.Sums.{mostOwn, insideStart, ownPlaces, OwnPlaces, ownGroups, Counting, Counted};
 
-// What records that stand one after another add up to. More places than a pattern may have are told as one more.
+// What records that stand one after another add up to. Places are counted up to the pattern's limit, as `pattern` counts them.
 pub struct Sums {
     pub places: usize,
     pub groups: usize,
     pub records: usize,
-}
-
-// A number of places, cut where it is more than a pattern may have.
-fn capped(places: usize) -> usize
-    ensures { λ r. ⌜ Capped places r ⌝ }
-{
-    if places <= Pattern::PLACES {
-        places
-    } else {
-        Pattern::PLACES + 1
-    }
 }
 
 // Where the records inside a record start: at its end where its kind has none inside.
@@ -38,19 +26,6 @@ fn inside_start(kind: usize, start: usize, end: usize) -> usize
         start
     } else {
         start + 6
-    }
-}
-
-// The places of a repeat by the places of what it repeats.
-fn repeat_places(least: usize, most: usize, places: usize) -> usize
-    requires { ⌜ CountsRight least most ⌝ }
-    requires { ⌜ places ≤ mostCounted ⌝ }
-    ensures { λ r. ⌜ (r ≡ repeatPlaces least (upperOf most) places) × (r ≤ mostOwn) ⌝ }
-{
-    if most == Pattern::NO_UPPER_END {
-        least * (1 + places) + (3 + places)
-    } else {
-        least * (1 + places) + (most - least) * (3 + places)
     }
 }
 
@@ -71,11 +46,9 @@ fn own_places(pattern: &[u8], kind: usize, start: usize, places: usize, records:
     if kind == Kind::ALTERNATION {
         return places + (records - 1);
     }
-    repeat_places(
-        number_at(pattern, start),
-        number_at(pattern, start + 2),
-        places,
-    )
+    let least = number_at(pattern, start);
+    let optional = counts::optional(least, number_at(pattern, start + 2));
+    counts::passes(least, optional, places)
 }
 
 // The groups of a record by its kind and those inside it.
@@ -104,7 +77,8 @@ fn count(pattern: &[u8], at: usize, stop: usize) -> Sums
         let start = from + 4;
         let end = start + number_at(pattern, from);
         let inside = counted(pattern, inside_start(kind, start, end), end);
-        places = capped(places + own_places(pattern, kind, start, inside.places, inside.records));
+        let own = own_places(pattern, kind, start, inside.places, inside.records);
+        places = counts::sum(places, own);
         groups += own_groups(kind, inside.groups);
         records += 1;
         from = end;
@@ -139,7 +113,7 @@ pub fn alone(pattern: &[u8], at: usize, stop: usize) -> Sums
 {
     let kind = number_at(pattern, at + 2);
     if kind < Kind::GROUP {
-        let places = capped(own_places(pattern, kind, at + 4, 0, 0));
+        let places = counts::sum(0, own_places(pattern, kind, at + 4, 0, 0));
         return Sums {
             places,
             groups: 0,

@@ -33,7 +33,7 @@ use Rattle.replacer.proofs.Scanning.{ready-tree, ready-accepts}
 pub built-ready : (pattern before after : List ℕ) (r : Built) → Builds pattern true before after r → (places deep many : ℕ) → r ≡ Built.Machine places deep many
     → Ready pattern after true places deep × (many ≡ groups (treeOf pattern))
 built-ready pattern before after r builds places deep many is =
-    let (m, same) = subst (Builds pattern true before after) is builds in
+    let (m, same, behind) = subst (Builds pattern true before after) is builds in
     (m, same ∙ ap groups (sym (ready-tree m)))
 
 -- one that was refused was refused by the pattern

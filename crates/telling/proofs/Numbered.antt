@@ -1,7 +1,6 @@
 -- Every refusal of the definitions has one of the sixteen numbers: each test names its number, and the first fault counts.
 use Prim.Native.Nat.{ℕ, zero, suc, _+_, _≤_}
 use native.Mathlib.Omega.{arith}
-use mathlib.Core.Path.{_≡_, sym, ap, subst, _∙_}
 use mathlib.Core.Bool.{Bool, true, false, cond, _&&_}
 use mathlib.Core.List.{List, [], _∷_}
 use mathlib.Core.Option.{Option}
@@ -13,9 +12,9 @@ use Rattle.paper.specs.Layout.{Kind, nothingKind, emptyKind, bytesKind, groupKi
 use Rattle.paper.specs.Check.{numberAt, bodyLength, kindAt, bodyStart, bodyEnd, part, setRight, repeatHead, repeatNumbersRight, Walk, kindAmong, header, single, walkAll, atLeastTwo, several, body, walkRecord, patternOf, numbersOf, check, rangesOf, upperOf, modeOf}
 use Rattle.paper.specs.Rows.{Rows, rowStart, rowEnd}
 use Rattle.paper.specs.Match.{wholeMatch, search, matchSteps, searchSteps, lineAndTable, counted, Found, matchCall, searchCall, told}
-use Rattle.paper.specs.Template.{Piece, literal, reference, literalKind, referenceKind, literalAt, referenceAt, pieceOfKind, pieceAt, piecesFrom, templateOf, within}
+use Rattle.paper.specs.Template.{Piece, literal, reference, literalKind, referenceKind, literalAt, referenceAt, pieceAt, piecesFrom, templateOf, within}
 use Rattle.paper.specs.Replace.{replaceAll, replaceCall, Replaced, replaceAnswer}
-use Rattle.paper.specs.PieceCalls.{isAbsent, spanOf, spanAt, rowSpan, pieceCall, Span, fromLine}
+use Rattle.paper.specs.PieceCalls.{isAbsent, spanAt, rowSpan, pieceCall, fromLine}
 use lib.Dec.{leb, ltb, eqb}
 use lib.ListN.{length}
 use Rattle.telling.specs.Told.{Numbered}

@@ -1,6 +1,5 @@
 // Answers as a status and numbers at the front of a lent `out`: a refusal as its number and its place (01, "Numbered refusals and their order"), any other as 0
 // and its numbers in 01's order.
-ghost use mathlib.Core.Path.{_≡_};
 ghost use mathlib.Core.List.{[], _∷_};
 ghost use Prim.Native.Nat.{_≤_};
 ghost use lib.ListN.{length};
@@ -9,7 +8,7 @@ ghost use Rattle.pattern.specs.Answer as checked;
 ghost use Rattle.matcher.specs.Answer as found;
 ghost use Rattle.template.specs.Answer as piece;
 ghost use Rattle.replacer.specs.Answer as replaced;
-ghost use Rattle.telling.specs.Told.{answered, tooShort, Numbered, Tells, checkNumbers, foundNumbers, spanNumbers, replacedNumbers, builtNumbers};
+ghost use Rattle.telling.specs.Told.{Numbered, Tells, checkNumbers, foundNumbers, spanNumbers, replacedNumbers, builtNumbers};
 
 // The two statuses that are no refusal's number.
 pub struct Status {}

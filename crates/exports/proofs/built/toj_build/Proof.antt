@@ -2,13 +2,13 @@
 use mathlib.Core.Path.{refl}
 use lib.Dec.{ltb}
 use native.Mathlib.Omega.{arith}
-use Rattle.exports.proofs.Keeping.{built-numbered}
+use Rattle.exports.proofs.Refusals.{built-numbered}
 use borrow.Author.Needs.{needs}
 use Rattle.exports.proofs.built.toj_build.Statement.{statement}
 use Rattle.exports.proofs.built.toj_build.Tie as tie
 use Rattle.exports.proofs.built.toj_build.Reads as reads
 use Rattle.exports.proofs.built.toj_build.Lts as lts
-use Rattle.exports.proofs.built.build_in.Reads as build-in-reads
+use Rattle.memory.proofs.build_in.Reads as build-in-reads
 use Rattle.telling.proofs.tell_built.Reads as tell-built-reads
 
 returns : tie.Need-returns

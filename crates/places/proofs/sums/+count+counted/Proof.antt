@@ -1,5 +1,4 @@
 -- `count` adds up records in a row, and has counted what stands inside each: the bytes between the two offsets fall.
-use borrow.Author.Needs.{needs}
 use Prim.Native.Nat.{ℕ, _+_, _-_, _*_, _<_}
 use native.Mathlib.Omega.{arith}
 use borrow.Fn.Kinds.{In}
@@ -10,7 +9,7 @@ use Rattle.places.proofs.sums.+count+counted.Lts-count as count-lts
 use Rattle.places.proofs.sums.counted.Reads as counted
 use Rattle.places.proofs.sums.counted.Kinds as counted-kinds
 use Rattle.places.proofs.sums.+count+counted.Lts-counted as counted-lts
-use Rattle.places.proofs.sums.capped.Reads as capped-reads
+use Rattle.pattern.proofs.counts.sum.Reads as sum-reads
 use Rattle.places.proofs.sums.inside_start.Reads as inside-start-reads
 use Rattle.places.proofs.sums.own_groups.Reads as own-groups-reads
 use Rattle.places.proofs.sums.own_places.Reads as own-places-reads
@@ -53,8 +52,8 @@ count-calls t = (
   counted.Post,
   own-places-reads.Asked,
   own-places-reads.Learnt,
-  capped-reads.Asked,
-  capped-reads.Learnt,
+  sum-reads.Asked,
+  sum-reads.Learnt,
   own-groups-reads.Asked,
   own-groups-reads.Learnt,
 )
@@ -132,14 +131,11 @@ count-own-places-requires t c κs =
     read-own (the-loop .from) (the-number-at .ensures .0) (the-number-at2 .ensures .0)
     (the-inside-start .ensures) f (the-counted .ensures)
 
-count-add-capped : (t : ℕ) → count-lts.Need-add-capped (count-calls t) (count-at t) count.Post count-Inv-loop count-μ-loop
-count-add-capped t c =
+count-sum-requires : (t : ℕ) → count-lts.Need-sum-requires (count-calls t) (count-at t) count.Post count-Inv-loop count-μ-loop
+count-sum-requires t c κs =
     let the-own-places = c .own-places in
     let the-loop = c .before .before .before .before .before .before .loop in
     omega (arith, the-own-places .ensures .1, the-loop .inv .small)
-
-count-capped-requires : (t : ℕ) → count-lts.Need-capped-requires (count-calls t) (count-at t) count.Post count-Inv-loop count-μ-loop
-count-capped-requires t c κs = search needs
 
 count-own-groups-requires : (t : ℕ) → count-lts.Need-own-groups-requires (count-calls t) (count-at t) count.Post count-Inv-loop count-μ-loop
 count-own-groups-requires t c κs =
@@ -185,10 +181,10 @@ count-loop-again t c =
     let the-loop-test = c .before .before .before .before .before .before .before .loop-test in
     let the-counted = c .before .before .before .counted in
     let the-own-places = c .before .before .own-places in
-    let the-capped = c .before .capped in
+    let the-sum = c .before .sum in
     let the-own-groups = c .own-groups in
     adding-turn (the-loop .from) (the-number-at .ensures .0) (the-number-at2 .ensures .0) (the-inside-start .ensures) (the-pre .1) (the-loop .inv) (the-loop-test .taken)
-    (the-counted .ensures) (the-own-places .ensures .0) (the-capped .ensures) (the-own-groups .ensures .0)
+    (the-counted .ensures) (the-own-places .ensures .0) (the-sum .ensures) (the-own-groups .ensures .0)
 
 count-returns : (t : ℕ) → count-lts.Need-returns (count-calls t) (count-at t) count.Post count-Inv-loop count-μ-loop
 count-returns t c =
@@ -224,8 +220,7 @@ pub +count+counted-spec : {M : Type 1} → statement M
     (count-inside-start-requires t)
     (count-counted-requires t)
     (count-own-places-requires t)
-    (count-add-capped t)
-    (count-capped-requires t)
+    (count-sum-requires t)
     (count-own-groups-requires t)
     (count-add-groups t)
     (count-add-records t)

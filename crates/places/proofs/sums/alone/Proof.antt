@@ -1,4 +1,5 @@
 -- A record without records inside is counted by its kind, any other by `count`.
+use native.Mathlib.Omega.{arith}
 use borrow.Author.Needs.{needs}
 use Rattle.places.proofs.sums.alone.Statement.{statement}
 use Rattle.places.proofs.sums.alone.Tie as tie
@@ -16,8 +17,10 @@ add-own-places c = search needs
 own-places-requires : tie.Need-own-places-requires
 own-places-requires c κs = search needs
 
-capped-requires : tie.Need-capped-requires
-capped-requires c κs = search needs
+sum-requires : tie.Need-sum-requires
+sum-requires c κs =
+    let the-own-places = c .own-places in
+    omega (arith, the-own-places .ensures .1)
 
 returns : tie.Need-returns
 returns c =
@@ -25,8 +28,8 @@ returns c =
     let the-number-at = c .before .before .before .number-at in
     let the-if1 = c .before .before .if1 in
     let the-own-places = c .before .own-places in
-    let the-capped = c .capped in
-    alone-counted (the-pre .0) (the-pre .1) (the-number-at .ensures .0) (the-if1 .taken) (the-own-places .ensures .0) (the-capped .ensures)
+    let the-sum = c .sum in
+    alone-counted (the-pre .0) (the-pre .1) (the-number-at .ensures .0) (the-if1 .taken) (the-own-places .ensures .0) (the-sum .ensures)
 
 count-requires : tie.Need-count-requires
 count-requires c κs = search needs
@@ -42,7 +45,7 @@ alone-spec =
     number-at-requires
     add-own-places
     own-places-requires
-    capped-requires
+    sum-requires
     returns
     count-requires
     returns-2)

@@ -65,25 +65,38 @@ number-at-requires-2 c κs =
     let the-pre = c .before .before .before .before .before .before .pre in
     omega (arith, the-pre .here (omega arith))
 
-repeat-places-requires : tie.Need-repeat-places-requires
-repeat-places-requires c κs =
+optional-requires : tie.Need-optional-requires
+optional-requires c κs =
     let the-number-at = c .before .number-at in
     let the-number-at2 = c .number-at2 in
     let the-pre = c .before .before .before .before .before .before .before .pre in
-    (rw (the-number-at .ensures .0, the-number-at2 .ensures .0) (the-pre .numbers (omega arith)), the-pre .places-small)
+    omega (arith, the-number-at .ensures .0, the-number-at2 .ensures .0, the-pre .numbers (omega arith) .ordered)
+
+passes-requires : tie.Need-passes-requires
+passes-requires c κs =
+    let the-number-at = c .before .before .number-at in
+    let the-number-at2 = c .before .number-at2 in
+    let the-optional = c .optional in
+    let the-pre = c .before .before .before .before .before .before .before .before .pre in
+    let right = the-pre .numbers (omega arith) in (
+      omega (arith, the-number-at .ensures .0, right .small),
+      omega (arith, rw (the-number-at .ensures .0, the-number-at2 .ensures .0) at (the-optional .ensures), right .few),
+      the-pre .places-small,
+    )
 
 returns-6 : tie.Need-returns-6
 returns-6 c =
-    let the-if1 = c .before .before .before .before .before .before .if1 in
-    let the-if3 = c .before .before .before .before .before .if3 in
-    let the-if4 = c .before .before .before .before .if4 in
-    let the-if5 = c .before .before .before .if5 in
-    let the-number-at = c .before .before .number-at in
-    let the-number-at2 = c .before .number-at2 in
-    let the-repeat-places = c .repeat-places in (
+    let the-if1 = c .before .before .before .before .before .before .before .if1 in
+    let the-if3 = c .before .before .before .before .before .before .if3 in
+    let the-if4 = c .before .before .before .before .before .if4 in
+    let the-if5 = c .before .before .before .before .if5 in
+    let the-number-at = c .before .before .before .number-at in
+    let the-number-at2 = c .before .before .number-at2 in
+    let the-optional = c .before .optional in
+    let the-passes = c .passes in (
       simp (le-ltb _ _ (the-if1 .left), ne-eqb _ _ (the-if3 .left), ne-eqb _ _ (the-if4 .left), ne-eqb _ _ (the-if5 .left))
-          (rw (the-number-at .ensures .0, the-number-at2 .ensures .0) at (the-repeat-places .ensures .0)),
-      the-repeat-places .ensures .1,
+          (rw (the-number-at .ensures .0, the-number-at2 .ensures .0) at (rw (the-optional .ensures) at (the-passes .ensures))),
+      omega (arith, the-passes .ensures),
     )
 
 pub own-places-spec : {M : Type 1} → statement M
@@ -101,5 +114,6 @@ own-places-spec =
     number-at-requires
     add-number-at
     number-at-requires-2
-    repeat-places-requires
+    optional-requires
+    passes-requires
     returns-6)

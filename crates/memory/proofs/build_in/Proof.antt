@@ -2,12 +2,12 @@
 use native.Mathlib.Omega.{arith}
 use lib.ListN.{length-set}
 use Rattle.machine.proofs.Wiring.{ready-places, ready-levels}
-use Rattle.exports.proofs.Keeping.{refused-in, ready-below, built-in}
+use Rattle.memory.proofs.Keeping.{refused-in, ready-below, built-in}
 use borrow.Author.Needs.{needs}
-use Rattle.exports.proofs.built.build_in.Statement.{statement}
-use Rattle.exports.proofs.built.build_in.Tie as tie
-use Rattle.exports.proofs.built.build_in.Reads as reads
-use Rattle.exports.proofs.built.build_in.Lts as lts
+use Rattle.memory.proofs.build_in.Statement.{statement}
+use Rattle.memory.proofs.build_in.Tie as tie
+use Rattle.memory.proofs.build_in.Reads as reads
+use Rattle.memory.proofs.build_in.Lts as lts
 use Rattle.machine.proofs.build.Reads as build-reads
 
 sub-build : tie.Need-sub-build

@@ -1,13 +1,14 @@
--- Each way out is one of the call's: 11, 12, or what was found, told and written.
+-- Each way out is one of the call's: 11, 12, which come before anything is touched, or what was found, told and written.
+use mathlib.Core.Path.{refl}
 use native.Mathlib.Omega.{arith}
-use Rattle.matcher.proofs.Answering.{refuses-line, refuses-table, answers}
-use Rattle.exports.specs.Memory.{searchesIn}
-use Rattle.exports.proofs.Keeping.{ready-behind, ready-in}
+use Rattle.matcher.proofs.Answering.{refuses-line, refuses-table, answers, not-refused}
+use Rattle.memory.specs.Memory.{searchesIn}
+use Rattle.memory.proofs.Keeping.{ready-behind, ready-in}
 use borrow.Author.Needs.{needs}
-use Rattle.exports.proofs.built.run_in.Statement.{statement}
-use Rattle.exports.proofs.built.run_in.Tie as tie
-use Rattle.exports.proofs.built.run_in.Reads as reads
-use Rattle.exports.proofs.built.run_in.Lts as lts
+use Rattle.memory.proofs.run_in.Statement.{statement}
+use Rattle.memory.proofs.run_in.Tie as tie
+use Rattle.memory.proofs.run_in.Reads as reads
+use Rattle.memory.proofs.run_in.Lts as lts
 use Rattle.matcher.proofs.fill.Reads as fill-reads
 use Rattle.machine.proofs.find_in.Reads as find-in-reads
 use Rattle.matcher.proofs.told.Reads as told-reads
@@ -17,7 +18,10 @@ returns c =
     let the-args = c .before .before .before .before .before .before .before .before .before .args in
     let the-pre = c .before .before .before .before .before .before .before .before .before .pre in
     let the-if1 = c .if1 in
-    refuses-line (searchesIn (the-args .machine .now)) (the-args .pattern .now) (the-args .line .now) (the-args .table .now) (the-pre .1 .tree) (the-pre .1 .found) (the-if1 .taken)
+    record {
+      answers = refuses-line (searchesIn (the-args .machine .now)) (the-args .pattern .now) (the-args .line .now) (the-args .table .now) (the-pre .1 .tree) (the-pre .1 .found) (the-if1 .taken);
+      kept = λ number place is. refl;
+    }
 
 returns-2 : tie.Need-returns-2
 returns-2 c =
@@ -25,7 +29,10 @@ returns-2 c =
     let the-pre = c .before .before .before .before .before .before .before .before .before .before .pre in
     let the-if1 = c .before .if1 in
     let the-if2 = c .if2 in
-    refuses-table (searchesIn (the-args .machine .now)) (the-args .pattern .now) (the-args .line .now) (the-args .table .now) (the-pre .1 .tree) (the-pre .1 .found) (the-if1 .left) (the-if2 .taken)
+    record {
+      answers = refuses-table (searchesIn (the-args .machine .now)) (the-args .pattern .now) (the-args .line .now) (the-args .table .now) (the-pre .1 .tree) (the-pre .1 .found) (the-if1 .left) (the-if2 .taken);
+      kept = λ number place is. refl;
+    }
 
 shared-slice-read-places : tie.Need-shared-slice-read-places
 shared-slice-read-places c = search needs
@@ -92,7 +99,11 @@ returns-3 c =
     let the-find-in = c .before .before .before .before .before .before .before .before .before .before .before .before .before .before .find-in in
     let the-told = c .told in
     let the-fill = c .before .before .before .fill in
-    answers (searchesIn (the-args .machine .now)) (the-args .pattern .now) (the-args .line .now) (the-args .table .now) (the-pre .1 .tree) (the-pre .1 .found) (the-pre .1 .lawful) (the-if1 .left) (the-if2 .left) (the-find-in .result .rows) (the-find-in .ensures) (the-told .ensures) (the-fill .ensures)
+    record {
+      answers = answers (searchesIn (the-args .machine .now)) (the-args .pattern .now) (the-args .line .now) (the-args .table .now) (the-pre .1 .tree) (the-pre .1 .found) (the-pre .1 .lawful) (the-if1 .left) (the-if2 .left) (the-find-in .result .rows) (the-find-in .ensures) (the-told .ensures) (the-fill .ensures);
+      kept = λ number place is.
+          absurd (not-refused (searchesIn (the-args .machine .now)) (the-args .pattern .now) (the-args .line .now) (the-args .table .now) (the-pre .1 .tree) (the-pre .1 .found) (the-pre .1 .lawful) (the-if1 .left) (the-if2 .left) (the-find-in .result .rows) (the-find-in .ensures) (the-told .ensures) number place is);
+    }
 
 pub run-in-spec : {M : Type 1} → statement M
 run-in-spec =

@@ -1,30 +1,30 @@
 -- A machine in its memory: its head stands before its table, which is the part of the memory that was built into, and a run reads both back.
-use Prim.Native.Nat.{ℕ, _-_, _≤_, min}
+use Prim.Native.Nat.{ℕ, _-_, _*_, _≤_, _<_, min}
 use native.Mathlib.Nat.{min-le-left, min-le-right}
 use native.Mathlib.Omega.{arith}
 use mathlib.Core.Path.{_≡_, refl, sym, ap, subst, _∙_}
 use mathlib.Core.Bool.{Bool, true, false}
 use mathlib.Core.List.{List, [], _∷_, _++_, append-nil}
 use mir.Val.{boolByte}
-use lib.ListN.{length, set, take, drop, length-drop}
-use lib.Seq.{take-all, drop-length}
-use borrow.Rule.Slice.PartMut.{midOf, postOf, putMid, put-same, post-is}
+use lib.Dec.{eqb}
+use lib.ListN.{length, getD, set, take, drop, length-drop}
+use lib.Seq.{take-all, drop-length, drop-drop, getD-take}
+use borrow.Rule.Slice.PartMut.{midOf, putMid, put-same, post-is}
 use Rattle.paper.specs.Limits.{lineBytes}
-use Rattle.matcher.specs.declared.Answer.{Answer}
+use Rattle.paper.specs.Tables.{placeNumbers}
 use Rattle.machine.specs.declared.Built.{Built}
 use Rattle.machine.specs.declared.Built.the-variants.{Refused, Machine}
 use Rattle.machine.specs.Machine.{Ready, Runnable, Builds}
-use Rattle.matcher.specs.Answer.{answerOf}
-use Rattle.matcher.specs.Promise.{Answers}
 use Rattle.machine.proofs.Wiring.{ready-places, ready-pairs, ready-runs}
-use Rattle.telling.specs.Told.{Numbered, builtNumbers}
-use Rattle.exports.specs.Memory.{headNumbers, machineNumbers, scratchNumbers, shortest, MachineOf, Holds, BuildsIn}
-use Rattle.telling.proofs.Numbered.{pattern-numbered, match-numbered, search-numbered}
-use Rattle.telling.proofs.Telling.{numbered-as}
+use Rattle.memory.specs.Memory.{headNumbers, placesIn, depthIn, searchesIn, machineNumbers, scratchNumbers, memories, shortest, MachineOf, Holds, BuildsIn}
 
 -- the memory with a table put behind its head
 abbrev withTable : List ℕ → List ℕ → List ℕ
 withTable machine table = putMid headNumbers (length machine - headNumbers) machine table
+
+-- the part behind the head is all that stands behind it
+all-behind : (machine : List ℕ) → take (length machine - headNumbers) (drop headNumbers machine) ≡ drop headNumbers machine
+all-behind machine = take-all (length machine - headNumbers) (drop headNumbers machine) (omega (arith, length-drop headNumbers machine))
 
 module _ (machine table : List ℕ) (room : machineNumbers ≤ length machine) where
   put-behind : withTable machine table ≡ take headNumbers machine ++ table
@@ -57,25 +57,52 @@ module _ (pattern : List ℕ) (searches : Bool) (machine table : List ℕ) (room
   ready-below b is = subst Below is b .0
 
   pub built-in : {r : Built} {places deep many : ℕ} → Below r → r ≡ Machine places deep many
-      → Holds pattern searches (set (set (set (withTable machine table) 0 places) 1 deep) 2 (boolByte searches)) places deep many
+      → Holds pattern searches machine (set (set (set (withTable machine table) 0 places) 1 deep) 2 (boolByte searches)) places deep many
   built-in {places = places} {deep} {many} b is =
-      subst (λ (l : List ℕ). Holds pattern searches l places deep many) (sym (stored machine table room places deep (boolByte searches))) (by searches (subst Below is b))
-    where
-      by : (s : Bool) → Builds pattern s (midOf headNumbers (length machine - headNumbers) machine) table (Machine places deep many)
-          → Holds pattern s (places ∷ deep ∷ boolByte s ∷ table) places deep many
-      by true b = record { ready = b .0; searches-is = refl; places-are = refl; deep-is = refl; many-are = b .1 }
-      by false b = record { ready = b .0; searches-is = refl; places-are = refl; deep-is = refl; many-are = b .1 }
+      let built = subst Below is b in
+      let size = placeNumbers * places in
+      subst (λ (l : List ℕ). Holds pattern searches machine l places deep many) (sym (stored machine table room places deep (boolByte searches)))
+      (record {
+        head = refl;
+        ready = built .0;
+        many-are = built .1;
+        behind = sym (drop-drop size headNumbers (places ∷ deep ∷ boolByte searches ∷ table)) ∙ built .2 ∙ ap (drop size) (all-behind machine) ∙ drop-drop size headNumbers machine;
+      })
 
--- the part behind the head is all that stands behind it
+-- a memory that holds a machine: its head reads back what was built
+module _ {pattern : List ℕ} {searches : Bool} {before machine : List ℕ} {places deep many : ℕ} (held : Holds pattern searches before machine places deep many) where
+  head-number : (i : ℕ) → i < headNumbers → getD machine i 0 ≡ getD (places ∷ deep ∷ boolByte searches ∷ []) i 0
+  head-number i low = sym (getD-take headNumbers machine i 0 low) ∙ ap (λ (l : List ℕ). getD l i 0) (held .head)
+
+  pub held-places : placesIn machine ≡ places
+  held-places = head-number 0 (omega arith)
+
+  held-depth : depthIn machine ≡ deep
+  held-depth = head-number 1 (omega arith)
+
+  held-search : searchesIn machine ≡ searches
+  held-search = ap (λ (n : ℕ). eqb n 1) (head-number 2 (omega arith)) ∙ read searches
+    where
+      read : (s : Bool) → eqb (boolByte s) 1 ≡ s
+      read true = refl
+      read false = refl
+
+  -- so it is what a run asks for
+  pub held-machine : MachineOf pattern machine
+  held-machine =
+      subst (λ (s : Bool). Ready pattern (drop headNumbers machine) s (placesIn machine) (depthIn machine)) (sym held-search)
+      (subst (λ (n : ℕ). Ready pattern (drop headNumbers machine) searches n (depthIn machine)) (sym held-places)
+      (subst (λ (n : ℕ). Ready pattern (drop headNumbers machine) searches places n) (sym held-depth) (held .ready)))
+
+-- so a table there is ready in the part
 pub ready-behind : {pattern : List ℕ} (machine : List ℕ) {searches : Bool} {places deep : ℕ} → Ready pattern (drop headNumbers machine) searches places deep
     → Ready pattern (take (length machine - headNumbers) (drop headNumbers machine)) searches places deep
 ready-behind {pattern} machine {searches} {places} {deep} m =
-    subst (λ (l : List ℕ). Ready pattern l searches places deep)
-    (sym (take-all (length machine - headNumbers) (drop headNumbers machine) (omega (arith, length-drop headNumbers machine)))) m
+    subst (λ (l : List ℕ). Ready pattern l searches places deep) (sym (all-behind machine)) m
 
 -- four memories of which the shortest is long enough are scratch for it
 pub ready-in : {pattern code line : List ℕ} {searches : Bool} {places deep : ℕ} (seen taken lists pending : List ℕ)
-    → Ready pattern code searches places deep → length line ≤ lineBytes → scratchNumbers ≤ shortest seen taken lists pending
+    → Ready pattern code searches places deep → length line ≤ lineBytes → scratchNumbers ≤ shortest (memories seen taken lists pending)
     → Runnable pattern code line searches places deep 0 seen taken lists pending
 ready-in seen taken lists pending m short room =
     let front = min (length seen) (length taken) in
@@ -88,13 +115,3 @@ ready-in seen taken lists pending m short room =
       lists-long = omega (arith, ready-places m, min-le-left (length lists) (length pending));
       pending-long = omega (arith, ready-places m, min-le-right (length lists) (length pending));
     })
-
--- what a run answers has a refusal's number, if it was refused
-pub answers-numbered : (searches : Bool) (pattern line table : List ℕ) (r : Answer) (after : List ℕ) → Answers searches pattern line table r after → Numbered (answerOf r)
-answers-numbered false pattern line table r after a = numbered-as (a .answer) (match-numbered pattern line table)
-answers-numbered true pattern line table r after a = numbered-as (a .answer) (search-numbered pattern line table)
-
--- what building promised has a refusal's number, if it was refused
-pub built-numbered : (pattern : List ℕ) (searches : Bool) (before after : List ℕ) (r : Built) → BuildsIn pattern searches before after r → Numbered (builtNumbers r)
-built-numbered pattern searches before after (Refused number place) b = numbered-as (sym (b .0)) (pattern-numbered pattern)
-built-numbered pattern searches before after (Machine places deep many) b = tt

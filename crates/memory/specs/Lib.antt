@@ -1,0 +1,2 @@
+-- What the contracts of a machine in lent memory cite.
+pub mod Memory
