@@ -14,8 +14,12 @@ use Rattle.matcher.specs.Promise.{Matches, Searches, Answers}
 use Rattle.replacer.specs.declared.Replaced as replacing
 use Rattle.replacer.specs.Answer as replaced
 use Rattle.replacer.specs.Promise.{Replaces}
-use Rattle.telling.specs.Told.{answered, tooShort, Tells, checkNumbers, foundNumbers, spanNumbers, replacedNumbers, builtNumbers}
+use Rattle.telling.specs.Told.{answered, Tells, checkNumbers, foundNumbers, spanNumbers, replacedNumbers, builtNumbers}
 use Rattle.memory.specs.Memory.{machineNumbers, scratchNumbers, searchesIn, Memories, shortest, BuildsIn}
+
+-- the status where lent memory is too short, which no answer has
+abbrev pub tooShort : ℕ
+tooShort = 255
 
 -- refused as too short, `out` as it was
 abbrev pub Untouched : List ℕ → ℕ → List ℕ → Type 0

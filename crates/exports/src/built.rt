@@ -1,6 +1,5 @@
 // Building a machine into lent memory, and running it on many lines.
-use memory::Memory;
-use telling::Status;
+use crate::limits::Lent;
 use telling::tell_built;
 use telling::tell_found;
 ghost use lib.Dec.{ltb};
@@ -18,10 +17,10 @@ pub extern "C" fn toj_build(
     ensures { λ r. ⌜ BuildReplies (now (pattern .entry)) (ltb 0 search) (now (machine .entry)) (now (machine .exit)) (now (out .entry)) r (now (out .exit)) ⌝ }
 {
     if out.len() < 3 {
-        return Status::SHORT;
+        return Lent::TOO_SHORT;
     }
-    if machine.len() < Memory::MACHINE {
-        return Status::SHORT;
+    if machine.len() < Lent::MACHINE {
+        return Lent::TOO_SHORT;
     }
     tell_built(memory::build_in(pattern, 0 < search, machine), out)
 }
@@ -43,15 +42,15 @@ pub extern "C" fn toj_run(
     ensures { λ r. ⌜ RunReplies (now (pattern .entry)) (now (machine .entry)) (now (line .entry)) (memories (now (seen .entry)) (now (taken .entry)) (now (lists .entry)) (now (pending .entry))) (memories (now (seen .exit)) (now (taken .exit)) (now (lists .exit)) (now (pending .exit))) (now (table .entry)) (now (table .exit)) (now (out .entry)) r (now (out .exit)) ⌝ }
 {
     if out.len() < 2 {
-        return Status::SHORT;
+        return Lent::TOO_SHORT;
     }
-    if machine.len() < Memory::MACHINE {
-        return Status::SHORT;
+    if machine.len() < Lent::MACHINE {
+        return Lent::TOO_SHORT;
     }
     if memory::least_of_four(seen.len(), taken.len(), lists.len(), pending.len())
-        < Memory::SCRATCH
+        < Lent::SCRATCH
     {
-        return Status::SHORT;
+        return Lent::TOO_SHORT;
     }
     tell_found(
         memory::run_in(pattern, machine, line, seen, taken, lists, pending, table),

@@ -1,5 +1,5 @@
 // Checking, whole match, search and piece. Lent memory that is too short is refused first, and then nothing is touched.
-use telling::Status;
+use crate::limits::Lent;
 use telling::tell_checked;
 use telling::tell_found;
 use telling::tell_piece;
@@ -12,7 +12,7 @@ pub extern "C" fn toj_check(pattern: &[u8], out: &mut [u64]) -> u32
     ensures { λ r. ⌜ CheckReplies (now (pattern .entry)) (now (out .entry)) r (now (out .exit)) ⌝ }
 {
     if out.len() < 3 {
-        return Status::SHORT;
+        return Lent::TOO_SHORT;
     }
     tell_checked(pattern::check(pattern), out)
 }
@@ -23,7 +23,7 @@ pub extern "C" fn toj_match(pattern: &[u8], line: &[u8], table: &mut [u16], out:
     ensures { λ r. ⌜ MatchReplies (now (pattern .entry)) (now (line .entry)) (now (table .entry)) (now (table .exit)) (now (out .entry)) r (now (out .exit)) ⌝ }
 {
     if out.len() < 2 {
-        return Status::SHORT;
+        return Lent::TOO_SHORT;
     }
     tell_found(matcher::whole_match(pattern, line, table), out)
 }
@@ -34,7 +34,7 @@ pub extern "C" fn toj_search(pattern: &[u8], line: &[u8], table: &mut [u16], out
     ensures { λ r. ⌜ SearchReplies (now (pattern .entry)) (now (line .entry)) (now (table .entry)) (now (table .exit)) (now (out .entry)) r (now (out .exit)) ⌝ }
 {
     if out.len() < 2 {
-        return Status::SHORT;
+        return Lent::TOO_SHORT;
     }
     tell_found(matcher::search(pattern, line, table), out)
 }
@@ -51,7 +51,7 @@ pub extern "C" fn toj_replace(
     ensures { λ r. ⌜ ReplaceReplies (now (pattern .entry)) (now (template .entry)) (now (line .entry)) (now (buffer .entry)) (now (buffer .exit)) (now (out .entry)) r (now (out .exit)) ⌝ }
 {
     if out.len() < 3 {
-        return Status::SHORT;
+        return Lent::TOO_SHORT;
     }
     tell_replaced(replacer::replace_all(pattern, template, line, buffer), out)
 }
@@ -68,7 +68,7 @@ pub extern "C" fn toj_piece(
     ensures { λ r. ⌜ PieceReplies (now (template .entry)) (now (line .entry)) (now (table .entry)) number (now (out .entry)) r (now (out .exit)) ⌝ }
 {
     if out.len() < 3 {
-        return Status::SHORT;
+        return Lent::TOO_SHORT;
     }
     tell_piece(template::piece(template, line, table, number), out)
 }

@@ -1,4 +1,5 @@
 // The limits, and how long lent memory has to be.
+use machine::Machine;
 use memory::Memory;
 use pattern::Line;
 use pattern::Pattern;
@@ -7,6 +8,18 @@ use pattern::Template;
 ghost use mathlib.Core.Path.{_≡_};
 ghost use Rattle.paper.specs.Limits.{patternBytes, templateBytes, lineBytes, rowCount, tableNumbers};
 ghost use Rattle.memory.specs.Memory.{machineNumbers, scratchNumbers};
+
+// Lent memory: how long that of the built variants has to be, and the status where any is too short.
+pub struct Lent {}
+
+impl Lent {
+    // a machine's head, and its table
+    pub const MACHINE: usize = Memory::HEAD + Machine::CODE;
+    // the branches that wait, which are the longest thing that a run needs
+    pub const SCRATCH: usize = Machine::PENDING;
+
+    pub const TOO_SHORT: u32 = 255;
+}
 
 // The longest pattern.
 #[no_mangle]
@@ -53,7 +66,7 @@ pub extern "C" fn toj_table_numbers() -> usize
 pub extern "C" fn toj_machine_numbers() -> usize
     ensures { λ r. ⌜ r ≡ machineNumbers ⌝ }
 {
-    Memory::MACHINE
+    Lent::MACHINE
 }
 
 // The numbers of each of the four memories that a machine is run in.
@@ -61,5 +74,5 @@ pub extern "C" fn toj_machine_numbers() -> usize
 pub extern "C" fn toj_scratch_numbers() -> usize
     ensures { λ r. ⌜ r ≡ scratchNumbers ⌝ }
 {
-    Memory::SCRATCH
+    Lent::SCRATCH
 }

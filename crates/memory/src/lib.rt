@@ -9,16 +9,12 @@ ghost use Prim.Native.Nat.{_≤_, min};
 ghost use lib.ListN.{length};
 ghost use Rattle.memory.specs.Memory.{machineNumbers, scratchNumbers, memories, shortest, MachineOf, BuildsIn, RunsIn};
 
-// The lengths of lent memory.
+// The memory of a machine.
 pub struct Memory {}
 
 impl Memory {
-    // a machine's places, its depth, and whether it searches
+    // its places, its depth, and whether it searches
     pub const HEAD: usize = 3;
-    // these, and its table
-    pub const MACHINE: usize = Memory::HEAD + machine::Machine::CODE;
-    // the branches that wait, which are the longest thing that a run needs
-    pub const SCRATCH: usize = machine::Machine::PENDING;
 }
 
 // Builds a machine behind its head, and then the head.

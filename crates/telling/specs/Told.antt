@@ -12,12 +12,9 @@ use Rattle.paper.specs.PieceCalls.{Source, fromTemplate, fromLine, Span}
 use Rattle.machine.specs.declared.Built.{Built}
 use Rattle.machine.specs.declared.Built.the-variants.{Refused, Machine}
 
--- the status of a call that was not refused, and of one whose lent memory is too short
+-- the status of a call that was not refused
 abbrev pub answered : ℕ
 answered = 0
-
-abbrev pub tooShort : ℕ
-tooShort = 255
 
 -- a refusal's number is one of the sixteen, so that a status says which answer it is of
 abbrev pub Numbered : {A : Type 0} → Checked A → Type 0

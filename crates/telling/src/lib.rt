@@ -10,13 +10,11 @@ ghost use Rattle.template.specs.Answer as piece;
 ghost use Rattle.replacer.specs.Answer as replaced;
 ghost use Rattle.telling.specs.Told.{Numbered, Tells, checkNumbers, foundNumbers, spanNumbers, replacedNumbers, builtNumbers};
 
-// The two statuses that are no refusal's number.
-pub struct Status {}
+// The status of an answer, which is no refusal's number.
+struct Status {}
 
 impl Status {
-    pub const ANSWERED: u32 = 0;
-
-    pub const SHORT: u32 = 255;
+    const ANSWERED: u32 = 0;
 }
 
 // A refusal: its number is the status, and its place is told.
