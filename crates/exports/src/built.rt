@@ -47,9 +47,7 @@ pub extern "C" fn toj_run(
     if machine.len() < Lent::MACHINE {
         return Lent::TOO_SHORT;
     }
-    if memory::least_of_four(seen.len(), taken.len(), lists.len(), pending.len())
-        < Lent::SCRATCH
-    {
+    if memory::least_of_four(seen.len(), taken.len(), lists.len(), pending.len()) < Lent::SCRATCH {
         return Lent::TOO_SHORT;
     }
     tell_found(
