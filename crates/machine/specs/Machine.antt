@@ -1,4 +1,4 @@
--- A machine built once and run on many lines: what the tables hold, what a run of it asks and gives. Inner promises cite this file; no public promise does.
+-- A machine built once and run on many lines: what the tables hold, what a run of it asks and gives. Inner promises cite this file, and those of `toj_build` and `toj_run`, which lend a machine.
 use Prim.Native.Nat.{ℕ, _+_, _*_, _≤_, _<_}
 use mathlib.Core.Path.{_≡_}
 use mathlib.Core.Bool.{Bool, true, false, cond}

@@ -82,9 +82,12 @@ few-passes : (least : ℕ) (upper : Upper) → CountsRight least upper → optio
 few-passes least (upTo most) h = omega arith
 few-passes least noEnd h = omega arith
 
--- right numbers have these bounds
-pub bounded : (least most mode : ℕ) → repeatNumbersRight least most mode ≡ true → Bounded least most
-bounded least most mode right =
-    let counts = numbers-right least most mode right .0 in
+-- counts that keep the rule have these bounds
+pub bounded-counts : (least most : ℕ) → CountsRight least (upperOf most) → Bounded least most
+bounded-counts least most counts =
     let small = counts-small least (upperOf most) counts in
     record { few-least = small .0; in-order = rw (upper-number-of most) at (small .1); few-optional = few-passes least (upperOf most) counts }
+
+-- so have right numbers
+pub bounded : (least most mode : ℕ) → repeatNumbersRight least most mode ≡ true → Bounded least most
+bounded least most mode right = bounded-counts least most (numbers-right least most mode right .0)

@@ -13,13 +13,14 @@ use Rattle.paper.specs.Pattern.{Mode, Upper, upTo, noEnd, Pattern, Members, pla
 use Rattle.paper.specs.Pattern.Pattern.{nothing, empty, bytes, group, sequence, alternation, repeat}
 use Rattle.paper.specs.Pattern.Members.{two, more}
 use Rattle.paper.specs.Pattern as pattern
-use Rattle.paper.specs.Layout.{upperNumber}
+use Rattle.paper.specs.Layout.{CountsRight}
 use Rattle.paper.specs.Check.{numberAt, kindAt, bodyStart, bodyEnd, upperOf, repeatHead}
+use Rattle.paper.proofs.layout.RepeatBody.{upper-of-number}
 use Rattle.paper.proofs.layout.MemberList.{listOf}
-use Rattle.pattern.specs.Walk.{capped, optionalPasses, placesIn, groupsIn}
-use Rattle.pattern.proofs.Counting.{repeat-passes}
-use Rattle.places.specs.Sums.{insideStart, CountsRight, ownPlaces, OwnPlaces, ownGroups, Counting, Summed, Counted}
-use Rattle.places.specs.Standing.{UpperRight, Passes, Stands, AllStand, Row}
+use Rattle.pattern.specs.Walk.{capped, placesIn, groupsIn}
+use Rattle.pattern.proofs.Counting.{repeat-passes, Bounded, bounded-counts}
+use Rattle.places.specs.Sums.{insideStart, ownPlaces, OwnPlaces, ownGroups, Counting, Summed, Counted}
+use Rattle.places.specs.Standing.{Passes, Stands, AllStand, Row}
 
 -- the records inside a record
 abbrev pub held : Pattern → List Pattern
@@ -76,20 +77,15 @@ pub row-long : (es : List Pattern) (bs : List ℕ) (at stop : ℕ) → Row bs at
 row-long [] bs at stop h = omega arith
 row-long (e ∷ es) bs at stop h = omega (arith, row-long es bs (bodyEnd bs at) stop (h .1))
 
--- the upper end that a repeat's second number names
-pub upper-named : (upper : Upper) (least : ℕ) → UpperRight least upper → upperOf (upperNumber upper) ≡ upper
-upper-named (upTo most) least right = rw (ne-eqb most 65535 (λ e. omega arith))
-upper-named noEnd least right = refl
-
 -- a repeat that has places has no fewer than what it repeats
-pub repeat-more : (least : ℕ) (upper : Upper) (p : ℕ) → UpperRight least upper → 0 < repeatPlaces least upper p → p ≤ repeatPlaces least upper p
+pub repeat-more : (least : ℕ) (upper : Upper) (p : ℕ) → CountsRight least upper → 0 < repeatPlaces least upper p → p ≤ repeatPlaces least upper p
 repeat-more least noEnd p right some = omega arith
 repeat-more (suc least) (upTo most) p right some = omega (arith, mul-le-mul-right {m = 1} {n = suc least} (1 + p) (omega arith))
 repeat-more zero (upTo zero) p right some = absurd (omega arith)
 repeat-more zero (upTo (suc most)) p right some = omega (arith, mul-le-mul-right {m = 1} {n = suc most - zero} (3 + p) (omega arith))
 
 -- the places of a repeat by cut places inside: where the repeat has none, the inside does not matter
-pub repeat-cut : (least : ℕ) (upper : Upper) (p q : ℕ) → UpperRight least upper → (p ≤ 500 → q ≡ p) → repeatPlaces least upper p ≤ 500
+pub repeat-cut : (least : ℕ) (upper : Upper) (p q : ℕ) → CountsRight least upper → (p ≤ 500 → q ≡ p) → repeatPlaces least upper p ≤ 500
     → repeatPlaces least upper q ≡ repeatPlaces least upper p
 repeat-cut least noEnd p q right same small = ap (repeatPlaces least noEnd) (same (omega (arith, repeat-more least noEnd p right (omega arith))))
 repeat-cut (suc least) (upTo most) p q right same small =
@@ -116,7 +112,7 @@ own-places (repeat least upper mode e) bs at p k h same count small =
     ∙ ap capped (repeat-passes (numberAt bs (bodyStart at)) (upperOf (numberAt bs (bodyStart at + 2))) p)
     ∙ ap (λ (n : ℕ). capped (repeatPlaces n (upperOf (numberAt bs (bodyStart at + 2))) p)) (h .1 .least-is)
     ∙ ap (λ (n : ℕ). capped (repeatPlaces least (upperOf n) p)) (h .1 .upper-is)
-    ∙ ap (λ (u : Upper). capped (repeatPlaces least u p)) (upper-named upper least (h .1 .right))
+    ∙ ap (λ (u : Upper). capped (repeatPlaces least u p)) (upper-of-number least upper (h .1 .right))
     ∙ ap capped (repeat-cut least upper (places e) p (h .1 .right) (λ le. same (omega arith) ∙ omega arith) small)
     ∙ min-eq-left small
 
@@ -142,13 +138,10 @@ held-groups (repeat least upper mode e) = omega arith
 
 -- the counts of a repeat that stands are right
 pub counts-right : {bs : List ℕ} {start least : ℕ} {upper : Upper} {mode : Mode} → Passes bs start least upper mode
-    → CountsRight (numberAt bs start) (numberAt bs (start + 2))
-counts-right {bs} {start} {least} {upper = upTo most} h =
-    let named : upperOf (numberAt bs (start + 2)) ≡ upTo most = ap upperOf (h .upper-is) ∙ upper-named (upTo most) least (h .right) in
-    record { small = omega arith; ordered = omega arith; few = omega (arith, ap (optionalPasses (numberAt bs start)) named) }
-counts-right {bs} {start} {least} {upper = noEnd} h =
-    let named : upperOf (numberAt bs (start + 2)) ≡ noEnd = ap upperOf (h .upper-is) in
-    record { small = omega arith; ordered = omega arith; few = omega (arith, ap (optionalPasses (numberAt bs start)) named) }
+    → CountsRight (numberAt bs start) (upperOf (numberAt bs (start + 2)))
+counts-right {bs} {start} {least} {upper} h =
+    subst (λ (n : ℕ). CountsRight n (upperOf (numberAt bs (start + 2)))) (sym (h .least-is))
+    (subst (CountsRight least) (sym (ap upperOf (h .upper-is) ∙ upper-of-number least upper (h .right))) (h .right))
 
 -- an alternation has a record inside, and a repeat its three numbers
 alternation-some : (e : Pattern) (bs : List ℕ) (at : ℕ) → Stands bs at e → kindAt bs at ≡ 5 → 1 ≤ length (held e)
@@ -170,7 +163,7 @@ repeat-here (alternation ms) bs at h six = absurd (omega (arith, h .0))
 repeat-here (repeat least upper mode e) bs at h six = omega (arith, h .3)
 
 repeat-right : (e : Pattern) (bs : List ℕ) (at : ℕ) → Stands bs at e → 5 < kindAt bs at
-    → CountsRight (numberAt bs (bodyStart at)) (numberAt bs (bodyStart at + 2))
+    → CountsRight (numberAt bs (bodyStart at)) (upperOf (numberAt bs (bodyStart at + 2)))
 repeat-right nothing bs at h six = absurd (omega (arith, h))
 repeat-right empty bs at h six = absurd (omega (arith, h))
 repeat-right (bytes ranges) bs at h six = absurd (omega (arith, h .0))
@@ -190,6 +183,10 @@ own-asked e bs at p k h ends short small count =
       here = λ six. omega (arith, repeat-here e bs at h six);
       numbers = λ six. repeat-right e bs at h six;
     }
+
+-- so the numbers of a repeat are bounded
+pub own-bounded : {bs : List ℕ} {kind start p k : ℕ} → OwnPlaces bs kind start p k → 5 < kind → Bounded (numberAt bs start) (numberAt bs (start + 2))
+own-bounded {bs} {start = start} m six = bounded-counts (numberAt bs start) (numberAt bs (start + 2)) (m .numbers six)
 
 -- the first of the records that are still to come
 pub record First (bs : List ℕ) (at stop : ℕ) : Type 0 where

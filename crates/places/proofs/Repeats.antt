@@ -10,7 +10,7 @@ use Rattle.paper.specs.Pattern.Pattern.{repeat}
 use Rattle.paper.specs.Check.{numberAt, upperOf, modeOf, repeatHead}
 use Rattle.paper.specs.Machine.{Core, writtenOut, musts, optionals}
 use Rattle.paper.proofs.machine.Sizes.{size-written}
-use Rattle.paper.proofs.layout.RepeatBody.{mode-of-number}
+use Rattle.paper.proofs.layout.RepeatBody.{upper-of-number, mode-of-number}
 use Rattle.pattern.specs.Walk.{optionalPasses, passPlaces}
 use Rattle.pattern.proofs.Counting as counting
 use Rattle.laying.specs.Laid.{Kept, Lays}
@@ -20,7 +20,7 @@ use Rattle.laying.proofs.Stores.{kept-both}
 use Rattle.laying.proofs.Entering.{passes-none, first-inner}
 use Rattle.laying.proofs.Sizes.{optional-maybes}
 use Rattle.places.specs.Walk.{One, OneLaid, Repeat, RepeatLaid}
-use Rattle.places.proofs.Adding.{upper-named, counts-right}
+use Rattle.places.proofs.Adding.{counts-right}
 
 -- they are the repeat written out
 passes-core : (endless : Bool) (least most : ℕ) (mode : Mode) (first g : ℕ) (e : Core)
@@ -41,14 +41,14 @@ module _ {bs : List ℕ} {start stop base next first n g least most mode : ℕ} 
   least-is = el ∙ m .numbers .least-is
 
   upper-is : upperOf most ≡ m .upper
-  upper-is = ap upperOf (em ∙ m .numbers .upper-is) ∙ upper-named (m .upper) (m .least) (m .numbers .right)
+  upper-is = ap upperOf (em ∙ m .numbers .upper-is) ∙ upper-of-number (m .least) (m .upper) (m .numbers .right)
 
   mode-is : modeOf mode ≡ m .mode
   mode-is = ap modeOf (ed ∙ m .numbers .mode-is) ∙ mode-of-number (m .mode)
 
   -- the most is no less than the least
   pub counts-ordered : least ≤ most
-  counts-ordered = omega (arith, el, em, counts-right (m .numbers) .ordered)
+  counts-ordered = omega (arith, el, em, counting.bounded-counts (numberAt bs start) (numberAt bs (start + 2)) (counts-right (m .numbers)) .in-order)
 
   -- the places of the passes are the repeat's
   pub total : {may : ℕ} → may ≡ optionalPasses least (upperOf most) → n ≡ passPlaces least may (places (m .tree))

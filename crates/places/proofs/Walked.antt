@@ -10,21 +10,20 @@ use lib.Dec.{leb, ltb, eqb}
 use lib.ListN.{length}
 use Rattle.paper.specs.Limits.{patternBytes, patternLevels, patternGroups, patternPlaces, setPairs}
 use Rattle.paper.specs.Refusal.{Checked, refused, accepted, _>>=_, _>>_, holds, patternTooLong, brokenRecord, setWrong, repeatWrong, tooDeep, tooManyGroups, tooManyPlaces}
-use Rattle.paper.specs.Pattern.{Upper, upTo, noEnd, Pattern, Members, allPlaces, groups}
+use Rattle.paper.specs.Pattern.{Pattern, Members, allPlaces, groups}
 use Rattle.paper.specs.Pattern.Pattern.{nothing, empty, bytes, group, sequence, alternation, repeat}
 use Rattle.paper.specs.Pattern.Members.{two, more}
 use Rattle.paper.specs.Layout.{Kind, nothingKind, emptyKind, bytesKind, groupKind, sequenceKind, alternationKind, repeatKind, kindNumber}
-use Rattle.paper.specs.Layout as layout
 use Rattle.paper.specs.Check.{numberAt, bodyLength, kindAt, bodyStart, bodyEnd, part, header, rangesOf, apart, setRight, byteSet, repeatNumbersRight, upperOf, modeOf, repeatHead, Walk, single, walkAll, atLeastTwo, several, body, walkRecord, patternOf}
 use Rattle.paper.proofs.layout.Accepted.{refused-not-accepted, accepted-injective, bind-accepted, holds-accepted, both-true}
 use Rattle.paper.proofs.layout.Standing.{length-part}
-use Rattle.paper.proofs.layout.RepeatBody.{upper-number-of, numbers-right, counts-small}
+use Rattle.paper.proofs.layout.RepeatBody.{upper-number-of, numbers-right}
 use Rattle.paper.proofs.layout.MemberList.{listOf, list-accepted, groups-listed}
 use Rattle.paper.proofs.layout.MemberList as list
 use Rattle.paper.proofs.layout.Turns.{Within, walk-all-induction}
 use Rattle.paper.proofs.layout.Header.{header-accepted, walk-within}
 use Rattle.pattern.specs.Walk.{groupsIn}
-use Rattle.places.specs.Standing.{UpperRight, Stands, AllStand, Row}
+use Rattle.places.specs.Standing.{Stands, AllStand, Row}
 
 -- a tree that stands at `at`, with so many groups before it
 pub record Stood (bs : List ℕ) (at before : ℕ) (e : Pattern) : Type 0 where
@@ -47,10 +46,6 @@ row-members (more a ms) bs at stop h = (h .0, row-members ms bs (bodyEnd bs at) 
 same-groups : (es : List Pattern) → list.groupsIn es ≡ groupsIn es
 same-groups [] = refl
 same-groups (e ∷ es) = ap (λ (k : ℕ). groups e + k) (same-groups es)
-
-upper-right : (least : ℕ) (upper : Upper) → layout.CountsRight least upper → UpperRight least upper
-upper-right least (upTo most) right = (right .0, right .1)
-upper-right least noEnd right = tt
 
 module _ (bs : List ℕ) (walk : Walk) (within : Within bs walk) (finds : Finds bs walk) (at before : ℕ) (fits : bodyEnd bs at ≤ length bs) where
   single-finds : (start groupsBefore : ℕ) (e : Pattern) → single walk bs at start groupsBefore ≡ accepted e
@@ -133,8 +128,7 @@ module _ (bs : List ℕ) (walk : Walk) (within : Within bs walk) (finds : Finds 
             least-is = refl;
             upper-is = sym (upper-number-of most);
             mode-is = sym kept;
-            small = counts-small least (upperOf most) counts .0;
-            right = upper-right least (upperOf most) counts;
+            right = counts;
           },
           found .stand,
           same,

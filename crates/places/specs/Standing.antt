@@ -4,11 +4,11 @@ use mathlib.Core.Path.{_≡_}
 use mathlib.Core.Bool.{Bool, true, false}
 use mathlib.Core.List.{List, [], _∷_}
 use lib.ListN.{length}
-use Rattle.paper.specs.Limits.{setPairs, repeatCount}
-use Rattle.paper.specs.Pattern.{Mode, Upper, upTo, noEnd, Range, Pattern, Members, groups}
+use Rattle.paper.specs.Limits.{setPairs}
+use Rattle.paper.specs.Pattern.{Mode, Upper, Range, Pattern, Members, groups}
 use Rattle.paper.specs.Pattern.Pattern.{nothing, empty, bytes, group, sequence, alternation, repeat}
 use Rattle.paper.specs.Pattern.Members.{two, more}
-use Rattle.paper.specs.Layout.{upperNumber, modeNumber}
+use Rattle.paper.specs.Layout.{upperNumber, modeNumber, CountsRight}
 use Rattle.paper.specs.Check.{numberAt, bodyLength, kindAt, bodyStart, bodyEnd, part, rangesOf, repeatHead}
 use Rattle.paper.specs.Machine.{Core, skip, chain, either, writtenOut}
 use Rattle.pattern.specs.Walk.{placesIn}
@@ -19,18 +19,12 @@ pub record Pairs (bs : List ℕ) (at : ℕ) (ranges : List Range) : Type 0 where
   pub whole : bodyLength bs at ≡ 2 * length ranges
   pub few : length ranges ≤ setPairs
 
--- a most that is a number, or none
-abbrev pub UpperRight : ℕ → Upper → Type 0
-UpperRight least (upTo most) = (least ≤ most) × (most ≤ repeatCount)
-UpperRight least noEnd = Unit {0}
-
 -- a repeat's body begins with these three numbers
 pub record Passes (bs : List ℕ) (start least : ℕ) (upper : Upper) (mode : Mode) : Type 0 where
   pub least-is : numberAt bs start ≡ least
   pub upper-is : numberAt bs (start + 2) ≡ upperNumber upper
   pub mode-is : numberAt bs (start + 4) ≡ modeNumber mode
-  pub small : least ≤ repeatCount
-  pub right : UpperRight least upper
+  pub right : CountsRight least upper
 
 -- the record of a tree stands at an offset; and the records of members from an offset up to the end of their holder
 abbrev mutual

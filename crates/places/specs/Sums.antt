@@ -5,8 +5,9 @@ use mathlib.Core.Bool.{cond}
 use mathlib.Core.List.{List}
 use lib.Dec.{ltb, eqb}
 use lib.ListN.{length}
-use Rattle.paper.specs.Limits.{patternBytes, patternPlaces, rowCount, repeatCount}
+use Rattle.paper.specs.Limits.{patternBytes, patternPlaces, rowCount}
 use Rattle.paper.specs.Pattern.{Pattern}
+use Rattle.paper.specs.Layout.{CountsRight}
 use Rattle.paper.specs.Check.{numberAt, repeatHead, upperOf}
 use Rattle.pattern.specs.Walk.{capped, optionalPasses, passPlaces, placesIn, groupsIn}
 use Rattle.places.specs.Standing.{Row}
@@ -18,12 +19,6 @@ mostOwn = patternPlaces + patternBytes
 -- where the records inside a record start, by the number of its kind
 abbrev pub insideStart : ℕ → ℕ → ℕ → ℕ
 insideStart kind start end = cond (ltb kind 3) end (cond (ltb kind 6) start (start + repeatHead))
-
--- the numbers of a repeat are right: a most that is no less than the least, and few passes
-pub record CountsRight (least most : ℕ) : Type 0 where
-  pub small : least ≤ repeatCount
-  pub ordered : least ≤ most
-  pub few : optionalPasses least (upperOf most) ≤ repeatCount
 
 -- the places of a record by the number of its kind, from the places and the number of the records inside it
 abbrev pub ownPlaces : List ℕ → ℕ → ℕ → ℕ → ℕ → ℕ
@@ -39,7 +34,7 @@ pub record OwnPlaces (bs : List ℕ) (kind start p k : ℕ) : Type 0 where
   pub records-small : k ≤ patternBytes
   pub some : kind ≡ 5 → 1 ≤ k
   pub here : 5 < kind → start + 4 ≤ length bs
-  pub numbers : 5 < kind → CountsRight (numberAt bs start) (numberAt bs (start + 2))
+  pub numbers : 5 < kind → CountsRight (numberAt bs start) (upperOf (numberAt bs (start + 2)))
 
 abbrev pub ownGroups : ℕ → ℕ → ℕ
 ownGroups kind g = cond (eqb kind 3) (g + 1) g

@@ -15,7 +15,15 @@ add-own-places : tie.Need-add-own-places
 add-own-places c = search needs
 
 own-places-requires : tie.Need-own-places-requires
-own-places-requires c κs = search needs
+own-places-requires c κs =
+    let the-if1 = c .if1 in
+    record {
+      places-small = omega arith;
+      records-small = omega arith;
+      some = λ five. absurd (omega (arith, the-if1 .taken));
+      here = λ six. absurd (omega (arith, the-if1 .taken));
+      numbers = λ six. absurd (omega (arith, the-if1 .taken));
+    }
 
 sum-requires : tie.Need-sum-requires
 sum-requires c κs =

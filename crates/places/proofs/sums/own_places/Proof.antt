@@ -2,6 +2,7 @@
 use native.Mathlib.Omega.{arith}
 use borrow.Author.Tests.{lt-ltb, le-ltb, eq-eqb, ne-eqb}
 use borrow.Author.Needs.{needs}
+use Rattle.places.proofs.Adding.{own-bounded}
 use Rattle.places.proofs.sums.own_places.Statement.{statement}
 use Rattle.places.proofs.sums.own_places.Tie as tie
 
@@ -70,7 +71,7 @@ optional-requires c κs =
     let the-number-at = c .before .number-at in
     let the-number-at2 = c .number-at2 in
     let the-pre = c .before .before .before .before .before .before .before .pre in
-    omega (arith, the-number-at .ensures .0, the-number-at2 .ensures .0, the-pre .numbers (omega arith) .ordered)
+    omega (arith, the-number-at .ensures .0, the-number-at2 .ensures .0, own-bounded the-pre (omega arith) .in-order)
 
 passes-requires : tie.Need-passes-requires
 passes-requires c κs =
@@ -78,9 +79,9 @@ passes-requires c κs =
     let the-number-at2 = c .before .number-at2 in
     let the-optional = c .optional in
     let the-pre = c .before .before .before .before .before .before .before .before .pre in
-    let right = the-pre .numbers (omega arith) in (
-      omega (arith, the-number-at .ensures .0, right .small),
-      omega (arith, rw (the-number-at .ensures .0, the-number-at2 .ensures .0) at (the-optional .ensures), right .few),
+    let bounds = own-bounded the-pre (omega arith) in (
+      omega (arith, the-number-at .ensures .0, bounds .few-least),
+      omega (arith, rw (the-number-at .ensures .0, the-number-at2 .ensures .0) at (the-optional .ensures), bounds .few-optional),
       the-pre .places-small,
     )
 
