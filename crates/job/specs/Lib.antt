@@ -1,1 +1,2 @@
-pub mod Inside
+-- What comes next in a job.
+pub mod Comes

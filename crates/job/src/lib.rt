@@ -2,8 +2,11 @@
 use pattern::Spans;
 use records::Header;
 ghost use Prim.Native.Nat.{_≤_};
+ghost use mathlib.Core.Path.{_≡_};
+ghost use mathlib.Core.List.{[], _∷_};
 ghost use lib.ListN.{length};
-ghost use Rattle.job.specs.Inside.{Inside};
+ghost use Rattle.printer.specs.Gathered.{Gathered};
+ghost use Rattle.job.specs.Comes.{comes, patternRecord, lineRecord, bodyBytes};
 
 // The kinds of a job's records, and the greatest length of a body.
 pub struct Job {}
@@ -14,6 +17,13 @@ impl Job {
     pub const LINE: usize = 65;
 
     pub const BODY: usize = 4096;
+
+    // The numbers above are those of specs/.
+    pub fn all() -> [usize; 3]
+        ensures { λ r. ⌜ r ≡ patternRecord ∷ lineRecord ∷ bodyBytes ∷ [] ⌝ }
+    {
+        [Job::PATTERN, Job::LINE, Job::BODY]
+    }
 }
 
 // What comes next in the job.
@@ -29,7 +39,7 @@ pub enum Next {
 // The record at an offset, if it is whole and of the kind.
 pub fn next_record(bytes: &[u8], at: usize, stop: usize, kind: usize) -> Next
     requires { ⌜ (at ≤ stop) × (stop ≤ length (now bytes)) ⌝ }
-    ensures { λ r. ⌜ Inside at stop r ⌝ }
+    ensures { λ r. ⌜ r ≡ comes (now (bytes .entry)) at stop kind ⌝ }
 {
     if at == stop {
         return Next::End;
@@ -60,7 +70,7 @@ pub fn print_numbers(
     groups: usize,
     coded: bool,
 ) -> usize
-    ensures { λ r. ⌜ r ≤ length (now (out .entry)) ⌝ }
+    ensures { λ r. ⌜ Gathered at r ⌝ }
 {
     let mut n = printer::bytes(out, at, b"places ", coded);
     n = printer::decimal(out, n, places as u64, coded);
@@ -73,7 +83,7 @@ pub fn print_numbers(
 
 // The refusal of the pattern.
 pub fn print_refused(out: &mut [u8], at: usize, number: usize, place: usize, coded: bool) -> usize
-    ensures { λ r. ⌜ r ≤ length (now (out .entry)) ⌝ }
+    ensures { λ r. ⌜ Gathered at r ⌝ }
 {
     let n = printer::refusal(out, at, number, place, coded);
     printer::bytes(out, n, b"\n", coded)
@@ -81,7 +91,7 @@ pub fn print_refused(out: &mut [u8], at: usize, number: usize, place: usize, cod
 
 // What is printed where the job is not as described.
 pub fn print_broken(out: &mut [u8], at: usize, coded: bool) -> usize
-    ensures { λ r. ⌜ r ≤ length (now (out .entry)) ⌝ }
+    ensures { λ r. ⌜ Gathered at r ⌝ }
 {
     printer::bytes(out, at, b"job broken\n", coded)
 }
@@ -97,7 +107,7 @@ pub fn print_line(
     groups: usize,
     coded: bool,
 ) -> usize
-    ensures { λ r. ⌜ r ≤ length (now (out .entry)) ⌝ }
+    ensures { λ r. ⌜ Gathered at r ⌝ }
 {
     let mut n = printer::decimal(out, at, number, coded);
     n = printer::bytes(out, n, b" ", coded);

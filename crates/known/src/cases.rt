@@ -154,8 +154,9 @@ fn with_groups(out: &mut [u8], at: usize) -> usize {
 }
 
 // All of them, in order.
-pub fn all(out: &mut [u8], at: usize) -> usize {
-    let mut n = without_groups(out, at);
+pub fn all(out: &mut [u8]) -> usize {
+    let mut n = printer::bytes(out, 0, b"Known answers\n", false);
+    n = without_groups(out, n);
     n = with_groups(out, n);
     n = case_13(out, n);
     n = case_14(out, n);

@@ -3,7 +3,7 @@ use crate::words::labelled;
 use pattern::PlaceKind;
 ghost use Prim.Native.Nat.{_≤_};
 ghost use mathlib.Core.Path.{_≡_};
-ghost use lib.ListN.{length};
+ghost use Rattle.printer.specs.Gathered.{Gathered};
 
 // A number of a table as an index.
 fn wide(x: u16) -> usize
@@ -14,7 +14,7 @@ fn wide(x: u16) -> usize
 
 // A byte: as its character in quotes, or in digits where it has none that can be seen.
 fn letter(out: &mut [u8], at: usize, b: u8) -> usize
-    ensures { λ r. ⌜ r ≤ length (now (out .entry)) ⌝ }
+    ensures { λ r. ⌜ Gathered at r ⌝ }
 {
     if b < b'!' {
         return digits(out, at, b);
@@ -27,7 +27,7 @@ fn letter(out: &mut [u8], at: usize, b: u8) -> usize
 }
 
 fn digits(out: &mut [u8], at: usize, b: u8) -> usize
-    ensures { λ r. ⌜ r ≤ length (now (out .entry)) ⌝ }
+    ensures { λ r. ⌜ Gathered at r ⌝ }
 {
     let n = printer::bytes(out, at, b"0x", false);
     printer::hex(out, n, b)
@@ -35,7 +35,7 @@ fn digits(out: &mut [u8], at: usize, b: u8) -> usize
 
 // A range of a set: its one byte, or its first and last.
 fn range(out: &mut [u8], at: usize, low: u8, high: u8) -> usize
-    ensures { λ r. ⌜ r ≤ length (now (out .entry)) ⌝ }
+    ensures { λ r. ⌜ Gathered at r ⌝ }
 {
     let mut n = printer::bytes(out, at, b" ", false);
     n = letter(out, n, low);
@@ -48,7 +48,7 @@ fn range(out: &mut [u8], at: usize, low: u8, high: u8) -> usize
 
 // The ranges of a set.
 fn ranges(out: &mut [u8], at: usize, pairs: &[u8]) -> usize
-    ensures { λ r. ⌜ r ≤ length (now (out .entry)) ⌝ }
+    ensures { λ r. ⌜ Gathered at r ⌝ }
 {
     let mut n = printer::bytes(out, at, b"set", false);
     let mut i = 0;
@@ -62,7 +62,7 @@ fn ranges(out: &mut [u8], at: usize, pairs: &[u8]) -> usize
 // A set, whose ranges stand in the pattern from an offset on.
 fn set(out: &mut [u8], at: usize, pattern: &[u8], offset: usize, count: usize) -> usize
     requires { ⌜ (offset ≤ 65535) × (count ≤ 65535) ⌝ }
-    ensures { λ r. ⌜ r ≤ length (now (out .entry)) ⌝ }
+    ensures { λ r. ⌜ Gathered at r ⌝ }
 {
     let end = offset + 2 * count;
     if end <= pattern.len() {
@@ -79,7 +79,7 @@ fn byte(x: u16) -> u8 {
 
 // A set of one range, whose least and greatest byte are the place's numbers. A search has two places that take every byte.
 fn single(out: &mut [u8], at: usize, low: u16, high: u16) -> usize
-    ensures { λ r. ⌜ r ≤ length (now (out .entry)) ⌝ }
+    ensures { λ r. ⌜ Gathered at r ⌝ }
 {
     if low == 0 && high == 255 {
         return printer::bytes(out, at, b"any byte", false);
@@ -90,7 +90,7 @@ fn single(out: &mut [u8], at: usize, low: u16, high: u16) -> usize
 
 // A begin of a pass, and the groups that it makes absent.
 fn begin(out: &mut [u8], at: usize, words: &[u8], first: u16, count: u16) -> usize
-    ensures { λ r. ⌜ r ≤ length (now (out .entry)) ⌝ }
+    ensures { λ r. ⌜ Gathered at r ⌝ }
 {
     let mut n = printer::bytes(out, at, words, false);
     if count == 0 {
@@ -105,7 +105,7 @@ fn begin(out: &mut [u8], at: usize, words: &[u8], first: u16, count: u16) -> usi
 
 // The begin of a pass, or its end.
 fn pass(out: &mut [u8], at: usize, kind: u16, first: u16, count: u16) -> usize
-    ensures { λ r. ⌜ r ≤ length (now (out .entry)) ⌝ }
+    ensures { λ r. ⌜ Gathered at r ⌝ }
 {
     if kind == PlaceKind::BEGIN {
         return begin(out, at, b"begin", first, count);
@@ -118,7 +118,7 @@ fn pass(out: &mut [u8], at: usize, kind: u16, first: u16, count: u16) -> usize
 
 // The start of a group, or its end.
 fn group(out: &mut [u8], at: usize, kind: u16, number: u16) -> usize
-    ensures { λ r. ⌜ r ≤ length (now (out .entry)) ⌝ }
+    ensures { λ r. ⌜ Gathered at r ⌝ }
 {
     if kind == PlaceKind::OPEN {
         return labelled(out, at, b"open ", wide(number));
@@ -128,7 +128,7 @@ fn group(out: &mut [u8], at: usize, kind: u16, number: u16) -> usize
 
 // What a place does that has one follower.
 fn action(out: &mut [u8], at: usize, pattern: &[u8], kind: u16, a: u16, many: u16) -> usize
-    ensures { λ r. ⌜ r ≤ length (now (out .entry)) ⌝ }
+    ensures { λ r. ⌜ Gathered at r ⌝ }
 {
     if kind < PlaceKind::BEGIN {
         return group(out, at, kind, a);
@@ -144,7 +144,7 @@ fn action(out: &mut [u8], at: usize, pattern: &[u8], kind: u16, a: u16, many: u1
 
 // What a place does and where it leads.
 fn deed(out: &mut [u8], at: usize, pattern: &[u8], kind: u16, next: u16, a: u16, many: u16) -> usize
-    ensures { λ r. ⌜ r ≤ length (now (out .entry)) ⌝ }
+    ensures { λ r. ⌜ Gathered at r ⌝ }
 {
     if kind == PlaceKind::FORK {
         let n = labelled(out, at, b"fork, prefers ", wide(next));
@@ -171,7 +171,7 @@ fn place(
     a: u16,
     many: u16,
 ) -> usize
-    ensures { λ r. ⌜ r ≤ length (now (out .entry)) ⌝ }
+    ensures { λ r. ⌜ Gathered at r ⌝ }
 {
     let mut n = labelled(out, at, b"    ", number);
     n = printer::bytes(out, n, b" ", false);
@@ -181,9 +181,9 @@ fn place(
 
 // The places whose numbers stand in a table, in order.
 pub fn places(out: &mut [u8], at: usize, pattern: &[u8], code: &[u16]) -> usize
-    ensures { λ r. ⌜ r ≤ length (now (out .entry)) ⌝ }
+    ensures { λ r. ⌜ Gathered at r ⌝ }
 {
-    let mut n = printer::bytes(out, at, b"", false);
+    let mut n = at;
     let mut b = 0;
     while b + 3 < code.len() {
         n = place(

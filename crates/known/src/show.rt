@@ -5,8 +5,7 @@ use crate::words;
 use machine::Built;
 use machine::Machine;
 use pattern::PlaceKind;
-ghost use Prim.Native.Nat.{_≤_};
-ghost use lib.ListN.{length};
+ghost use Rattle.printer.specs.Gathered.{Gathered};
 
 // How much is printed, and the groups of the pattern.
 pub struct Shown {
@@ -16,12 +15,12 @@ pub struct Shown {
 
 // The first places of a table: as many as were built, for which it has room.
 fn listed(out: &mut [u8], at: usize, pattern: &[u8], code: &[u16], places: usize) -> usize
-    ensures { λ r. ⌜ r ≤ length (now (out .entry)) ⌝ }
+    ensures { λ r. ⌜ Gathered at r ⌝ }
 {
     if places <= code.len() / PlaceKind::NUMBERS {
         listing::places(out, at, pattern, &code[0..PlaceKind::NUMBERS * places])
     } else {
-        printer::bytes(out, at, b"", false)
+        at
     }
 }
 

@@ -8,28 +8,29 @@ use machine::Built;
 use machine::Machine;
 use window::Window;
 ghost use Prim.Native.Nat.{_≤_};
+ghost use mathlib.Core.Path.{_≡_};
 ghost use mathlib.Core.Bool.{false};
-ghost use lib.ListN.{length};
-ghost use Rattle.paper.specs.Limits.{lineBytes};
+ghost use lib.ListN.{length, take};
 ghost use Rattle.machine.specs.Machine.{Runnable};
+ghost use Rattle.printer.specs.Gathered.{Gathered};
+ghost use Rattle.job.specs.Comes.{bodyBytes};
 ghost use Rattle.pick.specs.Job.{Lines, Tables};
 
-// How far the job is: the window of the input, how much is gathered for printing, and whether it goes on.
+// How far the job is: the window of the input, how much is gathered for printing, whether it goes on, and whether it is broken.
 struct Progress {
     window: Window,
     printed: usize,
     goes: bool,
+    broken: bool,
 }
 
 // The pattern's bytes in a place of their own, as the window moves on.
 fn keep(bytes: &mut [u8], body: &[u8]) -> usize
-    ensures { λ r. ⌜ r ≤ length (now (bytes .entry)) ⌝ }
+    requires { ⌜ length (now body) ≤ length (now bytes) ⌝ }
+    ensures { λ r. ⌜ (r ≡ length (now (body .entry))) × (take r (now (bytes .exit)) ≡ now (body .entry)) ⌝ }
 {
     let mut i = 0;
     while i < body.len() {
-        if bytes.len() <= i {
-            return i;
-        }
         bytes[i] = body[i];
         i += 1;
     }
@@ -78,7 +79,7 @@ fn answer_line(
     )
 }
 
-// The next record of the job: a line, which is answered; its end; or something else, which ends it.
+// The next record of the job: a line, which is answered; its end; or something else, which ends it. It also ends where no more can be printed.
 fn next_line(
     buffer: &mut [u8],
     pattern: &[u8],
@@ -105,11 +106,13 @@ fn next_line(
             window,
             printed,
             goes: false,
+            broken: false,
         },
         Next::Broken => Progress {
             window,
-            printed: job::print_broken(out, printed, false),
+            printed,
             goes: false,
+            broken: true,
         },
         Next::Body { start, end } => {
             let after = answer_line(
@@ -130,7 +133,8 @@ fn next_line(
             Progress {
                 window: window::behind(window, end),
                 printed: after,
-                goes: true,
+                goes: after != printer::FAILED,
+                broken: false,
             }
         }
     }
@@ -150,7 +154,7 @@ fn all_lines(
     pending: &mut [u16],
     out: &mut [u8],
     from: Progress,
-) -> usize
+) -> Progress
     requires { ⌜ Lines (now buffer) (now pattern) (now code) places depth (now seen) (now taken) (now lists) (now pending) (from .window .start) (from .window .end) ⌝ }
 {
     let mut now = from;
@@ -173,10 +177,25 @@ fn all_lines(
             now,
         );
         if !now.goes {
-            return now.printed;
+            return now;
         }
     }
-    now.printed
+    now
+}
+
+// What is printed where no record comes any more: that the input could not be read, that the job is broken, or nothing.
+fn print_end(out: &mut [u8], last: Progress) -> usize
+    ensures { λ r. ⌜ Gathered (last .printed) r ⌝ }
+{
+    let printed = last.printed;
+    let failed = last.window.failed;
+    if failed {
+        return printer::unreadable(out, printed, b"pick", b"job unreadable\n");
+    }
+    if last.broken {
+        return job::print_broken(out, printed, false);
+    }
+    printed
 }
 
 // The job behind its pattern: the pattern's numbers and its lines, or its refusal.
@@ -201,7 +220,7 @@ fn with_pattern(
             groups,
         } => {
             let printed = job::print_numbers(out, 0, places, depth, groups, false);
-            all_lines(
+            let last = all_lines(
                 buffer,
                 pattern,
                 code,
@@ -217,10 +236,25 @@ fn with_pattern(
                     window,
                     printed,
                     goes: true,
+                    broken: false,
                 },
-            )
+            );
+            print_end(out, last)
         }
     }
+}
+
+// What is printed where there is no record for the pattern.
+fn no_pattern(out: &mut [u8], window: Window) -> usize {
+    print_end(
+        out,
+        Progress {
+            window,
+            printed: 0,
+            goes: false,
+            broken: true,
+        },
+    )
 }
 
 // The whole job: its pattern first.
@@ -234,7 +268,7 @@ fn whole_job(
     pending: &mut [u16],
     out: &mut [u8],
 ) -> usize
-    requires { ⌜ Tables (now buffer) (now code) (now seen) (now taken) (now lists) (now pending) 0 0 ⌝ }
+    requires { ⌜ Tables (now buffer) (now code) (now seen) (now taken) (now lists) (now pending) 0 0 × (bodyBytes ≤ length (now bytes)) ⌝ }
 {
     let window = window::ready(
         buffer,
@@ -242,11 +276,12 @@ fn whole_job(
             start: 0,
             end: 0,
             ended: false,
+            failed: false,
         },
     );
     match job::next_record(buffer, window.start, window.end, Job::PATTERN) {
-        Next::End => job::print_broken(out, 0, false),
-        Next::Broken => job::print_broken(out, 0, false),
+        Next::End => no_pattern(out, window),
+        Next::Broken => no_pattern(out, window),
         Next::Body { start, end } => {
             let n = keep(bytes, &buffer[start..end]);
             let rest = window::behind(window, end);
@@ -284,5 +319,5 @@ fn main() {
         &mut pending,
         &mut out,
     );
-    printer::flush(&out, n);
+    printer::finish(&out, n, b"pick");
 }

@@ -1,38 +1,41 @@
 // The job on standard input: records read in blocks through a window of a lent buffer, so that no length of the job is too long.
 use job::Job;
-use libc::STDIN_FILENO;
 ghost use mathlib.Core.Path.{_≡_};
-ghost use Prim.Native.Nat.{_≤_, _-_};
-ghost use lib.ListN.{length};
+ghost use Prim.Native.Nat.{_≤_};
+ghost use lib.ListN.{length, take};
+ghost use Rattle.pick.specs.Window.{Moved, Grown};
 
 const RECORD: usize = records::BEFORE_BODY + Job::BODY;
 
-// The bytes of the buffer that are read and not yet used, and whether the input has ended.
+// The bytes of the buffer that are read and not yet used, whether nothing comes behind them, and whether that is because the input could not be read.
 pub struct Window {
     pub start: usize,
     pub end: usize,
     pub ended: bool,
+    pub failed: bool,
 }
 
 // What is left of the window behind a record that ends there.
 pub fn behind(window: Window, end: usize) -> Window
-    ensures { λ r. ⌜ (r .start ≡ end) × (r .end ≡ window .end) ⌝ }
+    ensures { λ r. ⌜ (r .start ≡ end) × (r .end ≡ window .end) × (r .ended ≡ window .ended) × (r .failed ≡ window .failed) ⌝ }
 {
     Window {
         start: end,
         end: window.end,
         ended: window.ended,
+        failed: window.failed,
     }
 }
 
 // Moves the window's bytes to the buffer's start, so that there is room behind them.
 fn moved(buffer: &mut [u8], from: Window) -> Window
     requires { ⌜ (from .start ≤ from .end) × (from .end ≤ length (now buffer)) ⌝ }
-    ensures { λ r. ⌜ (r .start ≤ r .end) × (r .end ≤ length (now (buffer .entry))) ⌝ }
+    ensures { λ r. ⌜ Moved (now (buffer .entry)) (from .start) (from .end) (now (buffer .exit)) (r .start) (r .end) ⌝ }
 {
     let start = from.start;
     let n = from.end - start;
     let ended = from.ended;
+    let failed = from.failed;
     let mut i = 0;
     while i < n {
         buffer[i] = buffer[start + i];
@@ -42,37 +45,46 @@ fn moved(buffer: &mut [u8], from: Window) -> Window
         start: 0,
         end: n,
         ended,
+        failed,
     }
 }
 
 // Reads once behind the window.
 fn more(buffer: &mut [u8], from: Window) -> Window
     requires { ⌜ (from .start ≤ from .end) × (from .end ≤ length (now buffer)) ⌝ }
-    ensures { λ r. ⌜ (r .start ≤ r .end) × (r .end ≤ length (now (buffer .entry))) ⌝ }
+    ensures { λ r. ⌜ Grown (now (buffer .entry)) (from .start) (from .end) (now (buffer .exit)) (r .start) (r .end) ⌝ }
 {
     let start = from.start;
     let end = from.end;
     let n = read_behind(buffer, end);
+    if buffer.len() - end < n {
+        return Window {
+            start,
+            end,
+            ended: true,
+            failed: true,
+        };
+    }
     Window {
         start,
         end: end + n,
         ended: n == 0,
+        failed: false,
     }
 }
 
-// How many bytes one reading puts behind an offset.
+// Reads once into the buffer from an offset on: how many bytes came, or that it failed.
 fn read_behind(buffer: &mut [u8], end: usize) -> usize
     requires { ⌜ end ≤ length (now buffer) ⌝ }
-    ensures { λ r. ⌜ r ≤ length (now (buffer .entry)) - end ⌝ }
+    ensures { λ _. ⌜ take end (now (buffer .exit)) ≡ take end (now (buffer .entry)) ⌝ }
 {
-    let room = &mut buffer[end..];
-    io::count(libc::read(STDIN_FILENO, room), room)
+    printer::read(&mut buffer[end..])
 }
 
 // Reads until a whole record fits the window or the input has ended. A record has at most so many bytes, so as many turns are enough.
 fn filled(buffer: &mut [u8], from: Window) -> Window
     requires { ⌜ (from .start ≤ from .end) × (from .end ≤ length (now buffer)) ⌝ }
-    ensures { λ r. ⌜ (r .start ≤ r .end) × (r .end ≤ length (now (buffer .entry))) ⌝ }
+    ensures { λ r. ⌜ Grown (now (buffer .entry)) (from .start) (from .end) (now (buffer .exit)) (r .start) (r .end) ⌝ }
 {
     let mut now = moved(buffer, from);
     let mut turns = RECORD;
@@ -83,15 +95,22 @@ fn filled(buffer: &mut [u8], from: Window) -> Window
     now
 }
 
+// Whether a reading is of no use: a whole record fits the window, or nothing comes behind it.
+fn enough(window: Window) -> bool
+    requires { ⌜ window .start ≤ window .end ⌝ }
+{
+    if window.ended {
+        return true;
+    }
+    RECORD <= window.end - window.start
+}
+
 // Reads once more where that is needed and can bring something.
 fn more_unless_ended(buffer: &mut [u8], from: Window) -> Window
     requires { ⌜ (from .start ≤ from .end) × (from .end ≤ length (now buffer)) ⌝ }
-    ensures { λ r. ⌜ (r .start ≤ r .end) × (r .end ≤ length (now (buffer .entry))) ⌝ }
+    ensures { λ r. ⌜ Grown (now (buffer .entry)) (from .start) (from .end) (now (buffer .exit)) (r .start) (r .end) ⌝ }
 {
-    if from.ended {
-        return from;
-    }
-    if RECORD <= from.end - from.start {
+    if enough(from) {
         return from;
     }
     more(buffer, from)
@@ -100,12 +119,9 @@ fn more_unless_ended(buffer: &mut [u8], from: Window) -> Window
 // The window ready for the next record.
 pub fn ready(buffer: &mut [u8], from: Window) -> Window
     requires { ⌜ (from .start ≤ from .end) × (from .end ≤ length (now buffer)) ⌝ }
-    ensures { λ r. ⌜ (r .start ≤ r .end) × (r .end ≤ length (now (buffer .entry))) ⌝ }
+    ensures { λ r. ⌜ Grown (now (buffer .entry)) (from .start) (from .end) (now (buffer .exit)) (r .start) (r .end) ⌝ }
 {
-    if from.ended {
-        return from;
-    }
-    if RECORD <= from.end - from.start {
+    if enough(from) {
         return from;
     }
     filled(buffer, from)

@@ -3,12 +3,12 @@ use crate::bytes;
 use crate::decimal;
 use pattern::Spans;
 ghost use Prim.Native.Nat.{_≤_};
-ghost use lib.ListN.{length};
 ghost use Rattle.paper.specs.Limits.{rowCount};
+ghost use Rattle.printer.specs.Gathered.{Gathered};
 
 // A refusal: its number and its place.
 pub fn refusal(out: &mut [u8], at: usize, number: usize, place: usize, coded: bool) -> usize
-    ensures { λ r. ⌜ r ≤ length (now (out .entry)) ⌝ }
+    ensures { λ r. ⌜ Gathered at r ⌝ }
 {
     let mut n = bytes(out, at, b"refused ", coded);
     n = decimal(out, n, number as u64, coded);
@@ -18,7 +18,7 @@ pub fn refusal(out: &mut [u8], at: usize, number: usize, place: usize, coded: bo
 
 // A row after a space: its start and end, or a dash where it is absent.
 pub fn row(out: &mut [u8], at: usize, start: u16, end: u16, coded: bool) -> usize
-    ensures { λ r. ⌜ r ≤ length (now (out .entry)) ⌝ }
+    ensures { λ r. ⌜ Gathered at r ⌝ }
 {
     if start == Spans::ABSENT {
         return bytes(out, at, b" -", coded);
@@ -52,10 +52,10 @@ fn rows(
     groups: usize,
     coded: bool,
 ) -> usize
-    ensures { λ r. ⌜ r ≤ length (now (out .entry)) ⌝ }
+    ensures { λ r. ⌜ Gathered at r ⌝ }
 {
     let last = row_count(groups);
-    let mut n = bytes(out, at, b"", coded);
+    let mut n = at;
     let mut k = 0;
     while k < last {
         n = row(out, n, table[2 * k], table[2 * k + 1], coded);
@@ -74,7 +74,7 @@ pub fn outcome(
     groups: usize,
     coded: bool,
 ) -> usize
-    ensures { λ r. ⌜ r ≤ length (now (out .entry)) ⌝ }
+    ensures { λ r. ⌜ Gathered at r ⌝ }
 {
     if matched {
         let n = bytes(out, at, b"whole ", coded);
@@ -95,7 +95,7 @@ pub fn found(
     groups: usize,
     coded: bool,
 ) -> usize
-    ensures { λ r. ⌜ r ≤ length (now (out .entry)) ⌝ }
+    ensures { λ r. ⌜ Gathered at r ⌝ }
 {
     match answer {
         matcher::Answer::Refused { number, place } => refusal(out, at, number, place, coded),

@@ -4,31 +4,32 @@ use crate::jobs;
 use pattern::Spans;
 ghost use Prim.Native.Nat.{_≤_, _<_};
 ghost use lib.ListN.{length};
+ghost use Rattle.printer.specs.Gathered.{Gathered};
 
 // What a line that is no case is answered by.
 pub fn bad_line(out: &mut [u8], at: usize) -> usize
-    ensures { λ r. ⌜ r ≤ length (now (out .entry)) ⌝ }
+    ensures { λ r. ⌜ Gathered at r ⌝ }
 {
     printer::bytes(out, at, b"bad line\n", false)
 }
 
 // The case as it came, and what stands before every answer.
 fn case(out: &mut [u8], at: usize, query: &[u8]) -> usize
-    ensures { λ r. ⌜ r ≤ length (now (out .entry)) ⌝ }
+    ensures { λ r. ⌜ Gathered at r ⌝ }
 {
     let n = printer::bytes(out, at, query, false);
     printer::bytes(out, n, b" -> ", false)
 }
 
 fn end_line(out: &mut [u8], at: usize) -> usize
-    ensures { λ r. ⌜ r ≤ length (now (out .entry)) ⌝ }
+    ensures { λ r. ⌜ Gathered at r ⌝ }
 {
     printer::bytes(out, at, b"\n", false)
 }
 
 // A number after a space.
 fn number(out: &mut [u8], at: usize, n: usize) -> usize
-    ensures { λ r. ⌜ r ≤ length (now (out .entry)) ⌝ }
+    ensures { λ r. ⌜ Gathered at r ⌝ }
 {
     let m = printer::bytes(out, at, b" ", false);
     printer::decimal(out, m, n as u64, false)
@@ -36,7 +37,7 @@ fn number(out: &mut [u8], at: usize, n: usize) -> usize
 
 // What checking answers.
 fn checked(out: &mut [u8], at: usize, answer: pattern::Answer) -> usize
-    ensures { λ r. ⌜ r ≤ length (now (out .entry)) ⌝ }
+    ensures { λ r. ⌜ Gathered at r ⌝ }
 {
     match answer {
         pattern::Answer::Refused {
@@ -154,7 +155,7 @@ fn joined(low: u8, high: u8) -> u16 {
 
 // The numbers of a table, the lower byte of each first; none as a dot.
 fn table_bytes(out: &mut [u8], at: usize, table: &[u16]) -> usize
-    ensures { λ r. ⌜ r ≤ length (now (out .entry)) ⌝ }
+    ensures { λ r. ⌜ Gathered at r ⌝ }
 {
     let mut n = printer::bytes(out, at, b" ", false);
     if table.len() == 0 {
@@ -179,7 +180,7 @@ fn high(x: u16) -> u8 {
 
 // What a whole match or a search answers, without its rows.
 fn told(out: &mut [u8], at: usize, answer: matcher::Answer) -> usize
-    ensures { λ r. ⌜ r ≤ length (now (out .entry)) ⌝ }
+    ensures { λ r. ⌜ Gathered at r ⌝ }
 {
     match answer {
         matcher::Answer::Refused { number, place } => printer::refusal(
@@ -251,7 +252,7 @@ pub fn find_in(
 
 // What replace-all answers, with the output that stands at the buffer's front.
 fn replaced(out: &mut [u8], at: usize, answer: replacer::Replaced, buffer: &[u8]) -> usize
-    ensures { λ r. ⌜ r ≤ length (now (out .entry)) ⌝ }
+    ensures { λ r. ⌜ Gathered at r ⌝ }
 {
     match answer {
         replacer::Replaced::Refused {
@@ -274,12 +275,12 @@ fn replaced(out: &mut [u8], at: usize, answer: replacer::Replaced, buffer: &[u8]
 
 // The first bytes of a buffer.
 fn output(out: &mut [u8], at: usize, buffer: &[u8], long: usize) -> usize
-    ensures { λ r. ⌜ r ≤ length (now (out .entry)) ⌝ }
+    ensures { λ r. ⌜ Gathered at r ⌝ }
 {
     if long <= buffer.len() {
         printer::byte_string(out, at, &buffer[0..long])
     } else {
-        printer::bytes(out, at, b"", false)
+        at
     }
 }
 
@@ -321,10 +322,10 @@ fn written(answer: replacer::Replaced) -> usize {
 
 // What is said where a byte behind the output is not as it was.
 fn print_kept(out: &mut [u8], at: usize, same: bool) -> usize
-    ensures { λ r. ⌜ r ≤ length (now (out .entry)) ⌝ }
+    ensures { λ r. ⌜ Gathered at r ⌝ }
 {
     if same {
-        printer::bytes(out, at, b"", false)
+        at
     } else {
         printer::bytes(out, at, b" buffer changed", false)
     }
@@ -387,7 +388,7 @@ pub fn replace(
 
 // What a piece is, and the part itself.
 fn pieced(out: &mut [u8], at: usize, answer: template::Answer, part: &[u8]) -> usize
-    ensures { λ r. ⌜ r ≤ length (now (out .entry)) ⌝ }
+    ensures { λ r. ⌜ Gathered at r ⌝ }
 {
     match answer {
         template::Answer::Refused {
@@ -406,7 +407,7 @@ fn pieced(out: &mut [u8], at: usize, answer: template::Answer, part: &[u8]) -> u
 }
 
 fn spanned(out: &mut [u8], at: usize, start: usize, end: usize, part: &[u8]) -> usize
-    ensures { λ r. ⌜ r ≤ length (now (out .entry)) ⌝ }
+    ensures { λ r. ⌜ Gathered at r ⌝ }
 {
     let mut n = number(out, at, start);
     n = number(out, n, end);

@@ -4,6 +4,7 @@ use job::Next;
 use pattern::Spans;
 ghost use Prim.Native.Nat.{_≤_, _<_};
 ghost use lib.ListN.{length};
+ghost use Rattle.printer.specs.Gathered.{Gathered};
 
 // How far the lines of a job are printed.
 struct Step {
@@ -20,7 +21,7 @@ fn print_found(
     rows: [u16; Spans::NUMBERS],
     groups: usize,
 ) -> usize
-    ensures { λ r. ⌜ r ≤ length (now (out .entry)) ⌝ }
+    ensures { λ r. ⌜ Gathered at r ⌝ }
 {
     match answer {
         matcher::Answer::Refused {

@@ -4,9 +4,9 @@ mod calls;
 mod fields;
 mod jobs;
 
-use libc::STDIN_FILENO;
-ghost use Prim.Native.Nat.{_≤_};
+ghost use Prim.Native.Nat.{_≤_, _<_};
 ghost use lib.ListN.{length};
+ghost use Rattle.printer.specs.Gathered.{Gathered};
 
 // The longest line that is read, and room for the bytes that its digits can stand for.
 const LINE: usize = 300_000;
@@ -17,22 +17,22 @@ const TABLE: usize = 75_000;
 
 const ROOM: usize = 300_000;
 
-// The calls by number.
+// The calls by number: first those that take a pattern and at most a line, then those that take a table.
 const CHECK: usize = 1;
 
 const MATCH: usize = 2;
 
 const SEARCH: usize = 3;
 
-const TABLE_MATCH: usize = 4;
+const PICK: usize = 4;
 
-const TABLE_SEARCH: usize = 5;
+const TABLE_MATCH: usize = 5;
 
-const REPLACE: usize = 6;
+const TABLE_SEARCH: usize = 6;
 
 const PIECE: usize = 7;
 
-const PICK: usize = 8;
+const REPLACE: usize = 8;
 
 // How much of a line is kept, whether more of it came than can be, and how much is gathered for printing.
 struct Progress {
@@ -41,9 +41,10 @@ struct Progress {
     printed: usize,
 }
 
-// What one reading of the input came to.
+// What one reading of the input came to: whether another follows, whether it failed, and how far the lines are.
 struct Turn {
-    ended: bool,
+    goes: bool,
+    failed: bool,
     now: Progress,
 }
 
@@ -104,6 +105,47 @@ fn query_end(line: &[u8]) -> usize
     line.len()
 }
 
+// A call that takes a pattern and at most a line, or no call.
+fn answer_plain(
+    call: usize,
+    query: &[u8],
+    word: usize,
+    store: &mut [u8],
+    out: &mut [u8],
+    at: usize,
+) -> usize
+    requires { ⌜ word ≤ length (now query) ⌝ }
+{
+    if call == 0 {
+        return calls::bad_line(out, at);
+    }
+    if call == CHECK {
+        return calls::check(query, word, store, out, at);
+    }
+    if call == PICK {
+        return calls::pick(query, word, store, out, at);
+    }
+    calls::find(query, word, call == SEARCH, store, out, at)
+}
+
+// A call that takes a table.
+fn answer_table(
+    call: usize,
+    query: &[u8],
+    word: usize,
+    store: &mut [u8],
+    table: &mut [u16],
+    out: &mut [u8],
+    at: usize,
+) -> usize
+    requires { ⌜ word ≤ length (now query) ⌝ }
+{
+    if call == PIECE {
+        return calls::piece(query, word, store, table, out, at);
+    }
+    calls::find_in(query, word, call == TABLE_SEARCH, store, table, out, at)
+}
+
 // Answers one whole line: the call that its first word names, on the fields behind it.
 fn answer(
     line: &[u8],
@@ -114,33 +156,15 @@ fn answer(
     at: usize,
 ) -> usize {
     let query = &line[0..query_end(line)];
-    let end = word_end(query);
-    let call = call_of(&query[0..end]);
-    if call == CHECK {
-        return calls::check(query, end, store, out, at);
-    }
-    if call == MATCH {
-        return calls::find(query, end, false, store, out, at);
-    }
-    if call == SEARCH {
-        return calls::find(query, end, true, store, out, at);
-    }
-    if call == TABLE_MATCH {
-        return calls::find_in(query, end, false, store, table, out, at);
-    }
-    if call == TABLE_SEARCH {
-        return calls::find_in(query, end, true, store, table, out, at);
-    }
+    let word = word_end(query);
+    let call = call_of(&query[0..word]);
     if call == REPLACE {
-        return calls::replace(query, end, store, room, out, at);
+        return calls::replace(query, word, store, room, out, at);
     }
-    if call == PIECE {
-        return calls::piece(query, end, store, table, out, at);
+    if TABLE_MATCH <= call {
+        return answer_table(call, query, word, store, table, out, at);
     }
-    if call == PICK {
-        return calls::pick(query, end, store, out, at);
-    }
-    calls::bad_line(out, at)
+    answer_plain(call, query, word, store, out, at)
 }
 
 // A line that was read to its end: answered, or too long to be kept.
@@ -217,7 +241,45 @@ fn go_through(
     now
 }
 
-// Reads once and goes through what came. Answers with nothing kept and nothing cut where the input has ended.
+// How many bytes of a block are to be gone through after a reading. At the input's end a line that has begun is ended.
+fn arrived(block: &mut [u8], count: usize, filled: usize) -> usize
+    ensures { λ r. ⌜ r ≤ length (now (block .entry)) ⌝ }
+{
+    if block.len() < count {
+        return 0;
+    }
+    if 0 < count {
+        return count;
+    }
+    if filled == 0 {
+        return 0;
+    }
+    line_end(block)
+}
+
+// A line end as the only byte.
+fn line_end(block: &mut [u8]) -> usize
+    ensures { λ r. ⌜ r ≤ length (now (block .entry)) ⌝ }
+{
+    if 0 < block.len() {
+        block[0] = b'\n';
+        return 1;
+    }
+    0
+}
+
+// Whether another reading follows: not where the input has ended or cannot be read, nor where the output cannot be written.
+fn goes_on(count: usize, printed: usize) -> bool {
+    if count == printer::FAILED {
+        return false;
+    }
+    if printed == printer::FAILED {
+        return false;
+    }
+    0 < count
+}
+
+// Reads once and goes through what came.
 fn read_some(
     block: &mut [u8],
     line: &mut [u8],
@@ -227,19 +289,25 @@ fn read_some(
     out: &mut [u8],
     from: Progress,
 ) -> Turn {
-    let n = io::count(libc::read(STDIN_FILENO, block), block);
-    if n == 0 {
-        Turn {
-            ended: true,
-            now: from,
-        }
-    } else {
-        let now = go_through(&block[0..n], line, store, table, room, out, from);
-        Turn { ended: false, now }
+    let count = printer::read(block);
+    let n = arrived(block, count, from.filled);
+    let now = go_through(&block[0..n], line, store, table, room, out, from);
+    Turn {
+        goes: goes_on(count, now.printed),
+        failed: count == printer::FAILED,
+        now,
     }
 }
 
-// Reads to the end of the input; a last line may lack its line end. A proved loop ends, so it counts its turns up to a number that no run reaches.
+// How many turns are left after one more: none where nothing follows.
+fn turns_left(turns: u64, goes: bool) -> u64
+    requires { ⌜ 0 < turns ⌝ }
+    ensures { λ r. ⌜ r < turns ⌝ }
+{
+    if goes { turns - 1 } else { 0 }
+}
+
+// Reads to the end of the input; a last line may lack its line end. A proved loop ends, so its turns are counted down from a number that no run comes to the end of.
 fn read_all(
     block: &mut [u8],
     line: &mut [u8],
@@ -247,32 +315,33 @@ fn read_all(
     table: &mut [u16],
     room: &mut [u8],
     out: &mut [u8],
-) {
-    let mut turns: u64 = 0;
+) -> Turn {
+    let mut turns: u64 = 18446744073709551615;
     let mut turn = Turn {
-        ended: false,
+        goes: true,
+        failed: false,
         now: Progress {
             filled: 0,
             cut: false,
             printed: 0,
         },
     };
-    while turns < 18446744073709551615 {
+    while 0 < turns {
         let now = turn.now;
         turn = read_some(block, line, store, table, room, out, now);
-        if turn.ended {
-            turns = 18446744073709551615;
-        } else {
-            turns += 1;
-        }
+        turns = turns_left(turns, turn.goes);
     }
-    let now = turn.now;
-    if 0 < now.filled {
-        let last = finish(line, store, table, room, out, now);
-        printer::flush(out, last.printed);
-    } else {
-        printer::flush(out, now.printed);
+    turn
+}
+
+// What is printed behind the last case: that the input could not be read, or nothing.
+fn print_end(out: &mut [u8], at: usize, failed: bool) -> usize
+    ensures { λ r. ⌜ Gathered at r ⌝ }
+{
+    if failed {
+        return printer::unreadable(out, at, b"replay", b"input unreadable\n");
     }
+    at
 }
 
 fn main() {
@@ -282,7 +351,7 @@ fn main() {
     let mut table = [0u16; TABLE];
     let mut room = [0u8; ROOM];
     let mut out = io::large_buffer();
-    read_all(
+    let turn = read_all(
         &mut block,
         &mut line,
         &mut store,
@@ -290,4 +359,6 @@ fn main() {
         &mut room,
         &mut out,
     );
+    let printed = print_end(&mut out, turn.now.printed, turn.failed);
+    printer::finish(&out, printed, b"replay");
 }

@@ -1,6 +1,6 @@
 -- `pick::all_lines` is safe and ends: the machine stays ready and the window inside the buffer, and the lines are counted up.
 use native.Mathlib.Omega.{arith}
-use Prim.Native.Nat.{_≤_, _<_, _+_, _*_, _-_}
+use Prim.Native.Nat.{_-_}
 use mathlib.Core.Path.{_≡_}
 use lib.ListN.{length}
 use Rattle.pick.specs.Job.{Lines}

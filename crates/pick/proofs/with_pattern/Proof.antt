@@ -1,4 +1,5 @@
 -- `pick::with_pattern` is safe and ends: the machine that was built is ready, and the tables are as long as it needs.
+use native.Mathlib.Omega.{arith}
 use Rattle.machine.proofs.Wiring.{ready-scratch}
 use borrow.Author.Needs.{needs}
 use Rattle.pick.proofs.with_pattern.Statement.{statement}
@@ -9,6 +10,7 @@ use Rattle.job.proofs.print_numbers.Reads as print-numbers-reads
 use Rattle.job.proofs.print_refused.Reads as print-refused-reads
 use Rattle.machine.proofs.build.Reads as build-reads
 use Rattle.pick.proofs.all_lines.Reads as all-lines-reads
+use Rattle.pick.proofs.print_end.Reads as print-end-reads
 
 build-requires : tie.Need-build-requires
 build-requires c κs = search needs
@@ -39,6 +41,9 @@ all-lines-requires c κs =
       inside = given .inside;
     }
 
+print-end-requires : tie.Need-print-end-requires
+print-end-requires c κs = search needs
+
 same-length : tie.Need-same-length
 same-length c = search needs
 
@@ -52,7 +57,9 @@ same-length-3 : tie.Need-same-length-3
 same-length-3 c = search needs
 
 same-length-4 : tie.Need-same-length-4
-same-length-4 c = search needs
+same-length-4 c =
+    let the-code = c .before .before .before .before .before .before .before .before .before .before .before .before .before .before .before .before .before .before .before .before .before .before .before .before .before .before .before .before .before .before .before .before .code in
+    omega (arith, the-code .given)
 
 same-length-5 : tie.Need-same-length-5
 same-length-5 c = search needs
@@ -82,6 +89,7 @@ with-pattern-spec =
     enum-known-places
     print-numbers-requires
     all-lines-requires
+    print-end-requires
     same-length
     same-length-2
     returns

@@ -1,23 +1,20 @@
--- `printer::coded_all` meets its contract: what is gathered never passes the buffer, and each turn puts out one byte of the slice.
-use Prim.Native.Nat.{_≤_, _<_, _+_, _*_, _-_}
+-- `printer::coded_all` meets its contract: each turn puts out one byte of the slice, and after a failed write nothing is gathered.
+use Prim.Native.Nat.{_-_}
 use mathlib.Core.Path.{_≡_}
 use lib.ListN.{length}
 use borrow.Author.Needs.{needs}
+use Rattle.printer.specs.Gathered.{Gathered}
 use Rattle.printer.proofs.coded_all.Statement.{statement}
 use Rattle.printer.proofs.coded_all.Tie as tie
 use Rattle.printer.proofs.coded_all.Reads as reads
 use Rattle.printer.proofs.coded_all.Lts as lts
-use Rattle.printer.proofs.gathered.Reads as gathered-reads
 use Rattle.printer.proofs.hex.Reads as hex-reads
 
 abbrev Inv-loop : tie.InvT-loop
-Inv-loop out₀ at s n₀ i₀ out n i = (length out ≡ length out₀) × (n ≤ length out₀)
+Inv-loop out₀ at s n₀ i₀ out n i = (length out ≡ length out₀) × Gathered at n
 
 abbrev μ-loop : tie.MeasureT-loop
 μ-loop out₀ at s n₀ i₀ out n i = length s - i
-
-gathered-requires : tie.Need-gathered-requires Inv-loop μ-loop
-gathered-requires c κs = search needs
 
 loop-holds : tie.Need-loop-holds Inv-loop μ-loop
 loop-holds c = search needs
@@ -49,7 +46,6 @@ coded-all-spec =
     (tie.spec
     Inv-loop
     μ-loop
-    gathered-requires
     loop-holds
     shared-slice-read-hex
     hex-requires

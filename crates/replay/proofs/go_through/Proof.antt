@@ -1,5 +1,5 @@
 -- `replay::go_through` is safe and ends: the buffers keep their lengths, and each turn takes one byte of the block.
-use Prim.Native.Nat.{_≤_, _<_, _+_, _*_, _-_}
+use Prim.Native.Nat.{_-_}
 use mathlib.Core.Path.{_≡_}
 use lib.ListN.{length}
 use borrow.Author.Needs.{needs}

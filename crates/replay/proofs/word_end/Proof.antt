@@ -1,6 +1,5 @@
 -- `replay::word_end` meets its contract: it stops inside the query or at its end.
-use Prim.Native.Nat.{_≤_, _<_, _+_, _*_, _-_}
-use mathlib.Core.Path.{_≡_}
+use Prim.Native.Nat.{_≤_, _-_}
 use lib.ListN.{length}
 use borrow.Author.Needs.{needs}
 use Rattle.replay.proofs.word_end.Statement.{statement}

@@ -1,26 +1,20 @@
--- `listing::places` meets its contract: what is gathered never passes the buffer, and each turn puts out one place.
-use Prim.Native.Nat.{_≤_, _<_, _+_, _*_, _-_}
+-- `listing::places` meets its contract: after a failed write nothing is gathered, and each turn puts out one place.
+use Prim.Native.Nat.{_≤_, _-_}
 use mathlib.Core.Path.{_≡_}
 use lib.ListN.{length}
 use borrow.Author.Needs.{needs}
+use Rattle.printer.specs.Gathered.{Gathered}
 use Rattle.known.proofs.listing.places.Statement.{statement}
 use Rattle.known.proofs.listing.places.Tie as tie
 use Rattle.known.proofs.listing.places.Reads as reads
 use Rattle.known.proofs.listing.places.Lts as lts
 use Rattle.known.proofs.listing.place.Reads as place-reads
-use Rattle.printer.proofs.bytes.Reads as bytes-reads
 
 abbrev Inv-loop : tie.InvT-loop
-Inv-loop out₀ at pattern code n₀ b₀ out n b = (length out ≡ length out₀) × (n ≤ length out₀) × (b ≤ length code)
+Inv-loop out₀ at pattern code n₀ b₀ out n b = (length out ≡ length out₀) × Gathered at n × (b ≤ length code)
 
 abbrev μ-loop : tie.MeasureT-loop
 μ-loop out₀ at pattern code n₀ b₀ out n b = length code - b
-
-slice-aggregate-bytes : tie.Need-slice-aggregate-bytes Inv-loop μ-loop
-slice-aggregate-bytes c = search needs
-
-bytes-requires : tie.Need-bytes-requires Inv-loop μ-loop
-bytes-requires c κs = search needs
 
 loop-holds : tie.Need-loop-holds Inv-loop μ-loop
 loop-holds c = search needs
@@ -85,8 +79,6 @@ places-spec =
     (tie.spec
     Inv-loop
     μ-loop
-    slice-aggregate-bytes
-    bytes-requires
     loop-holds
     add-loop
     mul-place

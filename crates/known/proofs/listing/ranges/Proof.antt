@@ -1,8 +1,9 @@
--- `listing::ranges` meets its contract: what is gathered never passes the buffer, and each turn puts out one pair.
-use Prim.Native.Nat.{_≤_, _<_, _+_, _*_, _-_}
+-- `listing::ranges` meets its contract: after a failed write nothing is gathered, and each turn puts out one pair.
+use Prim.Native.Nat.{_≤_, _-_}
 use mathlib.Core.Path.{_≡_}
 use lib.ListN.{length}
 use borrow.Author.Needs.{needs}
+use Rattle.printer.specs.Gathered.{Gathered}
 use Rattle.known.proofs.listing.ranges.Statement.{statement}
 use Rattle.known.proofs.listing.ranges.Tie as tie
 use Rattle.known.proofs.listing.ranges.Reads as reads
@@ -11,7 +12,7 @@ use Rattle.known.proofs.listing.range.Reads as range-reads
 use Rattle.printer.proofs.bytes.Reads as bytes-reads
 
 abbrev Inv-loop : tie.InvT-loop
-Inv-loop out₀ at pairs n₀ i₀ out n i = (length out ≡ length out₀) × (n ≤ length out₀) × (i ≤ length pairs)
+Inv-loop out₀ at pairs n₀ i₀ out n i = (length out ≡ length out₀) × Gathered at n × (i ≤ length pairs)
 
 abbrev μ-loop : tie.MeasureT-loop
 μ-loop out₀ at pairs n₀ i₀ out n i = length pairs - i

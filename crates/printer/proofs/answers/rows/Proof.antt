@@ -1,30 +1,24 @@
--- `printer::rows` meets its contract: what is gathered never passes the buffer, and no row beyond the table's last is asked for.
-use Prim.Native.Nat.{_≤_, _<_, _+_, _*_, _-_}
+-- `printer::rows` meets its contract: after a failed write nothing is gathered, and no row beyond the table's last is asked for.
+use Prim.Native.Nat.{_≤_, _-_}
 use mathlib.Core.Path.{_≡_}
 use lib.ListN.{length}
 use borrow.Author.Needs.{needs}
+use Rattle.printer.specs.Gathered.{Gathered}
 use Rattle.printer.proofs.answers.rows.Statement.{statement}
 use Rattle.printer.proofs.answers.rows.Tie as tie
 use Rattle.printer.proofs.answers.rows.Reads as reads
 use Rattle.printer.proofs.answers.rows.Lts as lts
 use Rattle.printer.proofs.answers.row.Reads as row-reads
 use Rattle.printer.proofs.answers.row_count.Reads as row-count-reads
-use Rattle.printer.proofs.bytes.Reads as bytes-reads
 
 abbrev Inv-loop : tie.InvT-loop
-Inv-loop out₀ at groups coded table last n₀ k₀ out n k = (length out ≡ length out₀) × (n ≤ length out₀) × (last ≤ 10)
+Inv-loop out₀ at groups coded table last n₀ k₀ out n k = (length out ≡ length out₀) × Gathered at n × (last ≤ 10)
 
 abbrev μ-loop : tie.MeasureT-loop
 μ-loop out₀ at groups coded table last n₀ k₀ out n k = last - k
 
 row-count-requires : tie.Need-row-count-requires Inv-loop μ-loop
 row-count-requires c κs = search needs
-
-slice-aggregate-bytes : tie.Need-slice-aggregate-bytes Inv-loop μ-loop
-slice-aggregate-bytes c = search needs
-
-bytes-requires : tie.Need-bytes-requires Inv-loop μ-loop
-bytes-requires c κs = search needs
 
 loop-holds : tie.Need-loop-holds Inv-loop μ-loop
 loop-holds c = search needs
@@ -75,8 +69,6 @@ rows-spec =
     Inv-loop
     μ-loop
     row-count-requires
-    slice-aggregate-bytes
-    bytes-requires
     loop-holds
     mul-row
     mul-row-2

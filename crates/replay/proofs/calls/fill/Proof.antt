@@ -1,5 +1,5 @@
 -- `calls::fill` is safe and ends: each turn stores one byte of the buffer.
-use Prim.Native.Nat.{_≤_, _<_, _+_, _*_, _-_}
+use Prim.Native.Nat.{_-_}
 use mathlib.Core.Path.{_≡_}
 use lib.ListN.{length}
 use borrow.Author.Needs.{needs}

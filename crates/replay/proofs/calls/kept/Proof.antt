@@ -1,6 +1,5 @@
 -- `calls::kept` is safe and ends: each turn looks at one byte of the buffer.
-use Prim.Native.Nat.{_≤_, _<_, _+_, _*_, _-_}
-use mathlib.Core.Path.{_≡_}
+use Prim.Native.Nat.{_-_}
 use lib.ListN.{length}
 use borrow.Author.Needs.{needs}
 use Rattle.replay.proofs.calls.kept.Statement.{statement}

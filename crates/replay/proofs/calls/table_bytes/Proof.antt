@@ -1,8 +1,9 @@
--- `calls::table_bytes` meets its contract: what is gathered never passes the buffer, and each turn puts out one number of the table.
-use Prim.Native.Nat.{_≤_, _<_, _+_, _*_, _-_}
+-- `calls::table_bytes` meets its contract: after a failed write nothing is gathered, and each turn puts out one number of the table.
+use Prim.Native.Nat.{_-_}
 use mathlib.Core.Path.{_≡_}
 use lib.ListN.{length}
 use borrow.Author.Needs.{needs}
+use Rattle.printer.specs.Gathered.{Gathered}
 use Rattle.replay.proofs.calls.table_bytes.Statement.{statement}
 use Rattle.replay.proofs.calls.table_bytes.Tie as tie
 use Rattle.replay.proofs.calls.table_bytes.Reads as reads
@@ -13,7 +14,7 @@ use Rattle.replay.proofs.calls.high.Reads as high-reads
 use Rattle.replay.proofs.calls.low.Reads as low-reads
 
 abbrev Inv-loop : tie.InvT-loop
-Inv-loop out₀ at table n₀ i₀ out n i = (length out ≡ length out₀) × (n ≤ length out₀)
+Inv-loop out₀ at table n₀ i₀ out n i = (length out ≡ length out₀) × Gathered at n
 
 abbrev μ-loop : tie.MeasureT-loop
 μ-loop out₀ at table n₀ i₀ out n i = length table - i

@@ -1,6 +1,5 @@
 -- `fields::read_number` meets its contract: it stops inside the query or at its end, and takes no digit more once the value has nine.
-use Prim.Native.Nat.{_≤_, _<_, _+_, _*_, _-_}
-use mathlib.Core.Path.{_≡_}
+use Prim.Native.Nat.{_≤_, _<_, _-_}
 use lib.ListN.{length}
 use borrow.Author.Needs.{needs}
 use Rattle.replay.proofs.fields.read_number.Statement.{statement}

@@ -1,5 +1,5 @@
 -- `fields::read_pairs` meets its contract: two digits are read for each byte that is stored, and neither side is passed.
-use Prim.Native.Nat.{_≤_, _<_, _+_, _*_, _-_}
+use Prim.Native.Nat.{_≤_, _+_, _*_, _-_}
 use mathlib.Core.Path.{_≡_}
 use lib.ListN.{length}
 use borrow.Author.Needs.{needs}

@@ -1,5 +1,5 @@
 -- `jobs::all_lines` is safe and ends: each line stands behind the one before, so the bytes left fall.
-use Prim.Native.Nat.{_≤_, _<_, _+_, _*_, _-_}
+use Prim.Native.Nat.{_≤_, _-_}
 use mathlib.Core.Path.{_≡_}
 use lib.ListN.{length}
 use borrow.Author.Needs.{needs}

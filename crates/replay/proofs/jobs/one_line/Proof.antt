@@ -1,6 +1,8 @@
 -- `jobs::one_line` meets its contract: whatever comes next, the offset goes forward and not past the job's end.
 use native.Mathlib.Omega.{arith}
+use lib.ListN.{length}
 use borrow.Author.Needs.{needs}
+use Rattle.job.proofs.Comes.{told-inside}
 use Rattle.replay.proofs.jobs.one_line.Statement.{statement}
 use Rattle.replay.proofs.jobs.one_line.Tie as tie
 use Rattle.replay.proofs.jobs.one_line.Reads as reads
@@ -32,22 +34,25 @@ absent-table-requires c κs = search needs
 sub-whole-match : tie.Need-sub-whole-match
 sub-whole-match c =
     let the-start = c .before .before .start in
+    let the-args = c .before .before .before .before .before .before .before .before .args in
     let the-next-record = c .before .before .before .before .next-record in
-    let shown = rw (the-start .given .1) at (the-next-record .ensures) in
+    let shown = rw (the-start .given .1) at (told-inside (the-args .bytes .now) (the-args .from) (length (the-args .bytes .now)) 65 (the-next-record .ensures)) in
     omega (arith, shown)
 
 part-whole-match-start : tie.Need-part-whole-match-start
 part-whole-match-start c =
     let the-start = c .before .before .start in
+    let the-args = c .before .before .before .before .before .before .before .before .args in
     let the-next-record = c .before .before .before .before .next-record in
-    let shown = rw (the-start .given .1) at (the-next-record .ensures) in
+    let shown = rw (the-start .given .1) at (told-inside (the-args .bytes .now) (the-args .from) (length (the-args .bytes .now)) 65 (the-next-record .ensures)) in
     omega (arith, shown)
 
 part-whole-match-end : tie.Need-part-whole-match-end
 part-whole-match-end c =
     let the-start = c .before .before .start in
+    let the-args = c .before .before .before .before .before .before .before .before .args in
     let the-next-record = c .before .before .before .before .next-record in
-    let shown = rw (the-start .given .1) at (the-next-record .ensures) in
+    let shown = rw (the-start .given .1) at (told-inside (the-args .bytes .now) (the-args .from) (length (the-args .bytes .now)) 65 (the-next-record .ensures)) in
     omega (arith, shown)
 
 slice-aggregate-whole-match : tie.Need-slice-aggregate-whole-match
@@ -74,8 +79,9 @@ same-length-2 c = search needs
 returns-3 : tie.Need-returns-3
 returns-3 c =
     let the-start = c .before .before .before .before .before .before .before .before .before .before .start in
+    let the-args = c .before .before .before .before .before .before .before .before .before .before .before .before .before .before .before .before .args in
     let the-next-record = c .before .before .before .before .before .before .before .before .before .before .before .before .next-record in
-    let shown = rw (the-start .given .1) at (the-next-record .ensures) in
+    let shown = rw (the-start .given .1) at (told-inside (the-args .bytes .now) (the-args .from) (length (the-args .bytes .now)) 65 (the-next-record .ensures)) in
     omega (arith, shown)
 
 pub one-line-spec : {M : Type 1} → statement M

@@ -1,6 +1,8 @@
 -- `jobs::picked` is safe and ends: the pattern's record lies in the job.
 use native.Mathlib.Omega.{arith}
+use lib.ListN.{length}
 use borrow.Author.Needs.{needs}
+use Rattle.job.proofs.Comes.{told-inside}
 use Rattle.replay.proofs.jobs.picked.Statement.{statement}
 use Rattle.replay.proofs.jobs.picked.Tie as tie
 use Rattle.replay.proofs.jobs.picked.Reads as reads
@@ -30,29 +32,33 @@ enum-known-start c = search needs
 sub-with-pattern : tie.Need-sub-with-pattern
 sub-with-pattern c =
     let the-start = c .before .start in
+    let the-args = c .before .before .before .before .before .before .args in
     let the-next-record = c .before .before .before .next-record in
-    let shown = rw (the-start .given .1) at (the-next-record .ensures) in
+    let shown = rw (the-start .given .1) at (told-inside (the-args .bytes .now) 0 (length (the-args .bytes .now)) 64 (the-next-record .ensures)) in
     omega (arith, shown)
 
 part-with-pattern-start : tie.Need-part-with-pattern-start
 part-with-pattern-start c =
     let the-start = c .before .start in
+    let the-args = c .before .before .before .before .before .before .args in
     let the-next-record = c .before .before .before .next-record in
-    let shown = rw (the-start .given .1) at (the-next-record .ensures) in
+    let shown = rw (the-start .given .1) at (told-inside (the-args .bytes .now) 0 (length (the-args .bytes .now)) 64 (the-next-record .ensures)) in
     omega (arith, shown)
 
 part-with-pattern-end : tie.Need-part-with-pattern-end
 part-with-pattern-end c =
     let the-start = c .before .start in
+    let the-args = c .before .before .before .before .before .before .args in
     let the-next-record = c .before .before .before .next-record in
-    let shown = rw (the-start .given .1) at (the-next-record .ensures) in
+    let shown = rw (the-start .given .1) at (told-inside (the-args .bytes .now) 0 (length (the-args .bytes .now)) 64 (the-next-record .ensures)) in
     omega (arith, shown)
 
 with-pattern-requires : tie.Need-with-pattern-requires
 with-pattern-requires c κs =
     let the-start = c .before .before .before .start in
+    let the-args = c .before .before .before .before .before .before .before .before .args in
     let the-next-record = c .before .before .before .before .before .next-record in
-    let shown = rw (the-start .given .1) at (the-next-record .ensures) in
+    let shown = rw (the-start .given .1) at (told-inside (the-args .bytes .now) 0 (length (the-args .bytes .now)) 64 (the-next-record .ensures)) in
     omega (arith, shown)
 
 same-length : tie.Need-same-length

@@ -1,0 +1,2 @@
+-- Laws on what comes next in a job.
+pub mod Comes

@@ -1,0 +1,2 @@
+-- Laws on the window's bytes.
+pub mod Windows

@@ -1,0 +1,2 @@
+-- What the printing functions promise.
+pub mod Gathered
