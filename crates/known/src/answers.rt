@@ -34,6 +34,17 @@ fn output(out: &mut [u8], at: usize, buffer: &[u8], long: usize) -> usize
     }
 }
 
+// The numbers that replace-all answers.
+fn counted(out: &mut [u8], at: usize, length: usize, replacements: usize, steps: u64) -> usize
+    ensures { λ r. ⌜ Gathered at r ⌝ }
+{
+    let mut n = words::labelled(out, at, b" length ", length);
+    n = words::labelled(out, n, b" replacements ", replacements);
+    n = printer::bytes(out, n, b" steps ", false);
+    n = printer::decimal(out, n, steps, false);
+    words::end_line(out, n)
+}
+
 // What replace-all answers, with its output.
 fn done(out: &mut [u8], at: usize, answer: replacer::Replaced, buffer: &[u8]) -> usize
     ensures { λ r. ⌜ Gathered at r ⌝ }
@@ -51,12 +62,8 @@ fn done(out: &mut [u8], at: usize, answer: replacer::Replaced, buffer: &[u8]) ->
             replacements,
             steps,
         } => {
-            let mut n = output(out, at, buffer, length);
-            n = words::labelled(out, n, b" length ", length);
-            n = words::labelled(out, n, b" replacements ", replacements);
-            n = printer::bytes(out, n, b" steps ", false);
-            n = printer::decimal(out, n, steps, false);
-            words::end_line(out, n)
+            let n = output(out, at, buffer, length);
+            counted(out, n, length, replacements, steps)
         }
     }
 }

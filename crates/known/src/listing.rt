@@ -142,13 +142,20 @@ fn action(out: &mut [u8], at: usize, pattern: &[u8], kind: u16, a: u16, many: u1
     single(out, at, a, many)
 }
 
+// A fork: the branch that it prefers, and the other.
+fn fork(out: &mut [u8], at: usize, preferred: u16, other: u16) -> usize
+    ensures { λ r. ⌜ Gathered at r ⌝ }
+{
+    let n = labelled(out, at, b"fork, prefers ", wide(preferred));
+    labelled(out, n, b", else ", wide(other))
+}
+
 // What a place does and where it leads.
 fn deed(out: &mut [u8], at: usize, pattern: &[u8], kind: u16, next: u16, a: u16, many: u16) -> usize
     ensures { λ r. ⌜ Gathered at r ⌝ }
 {
     if kind == PlaceKind::FORK {
-        let n = labelled(out, at, b"fork, prefers ", wide(next));
-        return labelled(out, n, b", else ", wide(a));
+        return fork(out, at, next, a);
     }
     if kind == PlaceKind::STOP {
         return printer::bytes(out, at, b"stop", false);

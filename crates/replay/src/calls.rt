@@ -360,17 +360,12 @@ pub fn replace(
 ) -> usize
     requires { ⌜ word ≤ length (now query) ⌝ }
 {
-    let read = fields::read_three(query, word, store);
+    let read = fields::read_case(query, word, store);
     let one = read.one;
     let two = read.two;
     let three = read.three;
-    let count = fields::number_after(query, read.next);
-    let value = count.value;
-    if fields::ended(
-        query,
-        read.whole && count.whole && value <= room.len(),
-        count.next,
-    ) {
+    let value = read.value;
+    if read.whole {
         if value <= room.len() {
             return replace_at(
                 query,
@@ -442,13 +437,12 @@ pub fn piece(
 ) -> usize
     requires { ⌜ word ≤ length (now query) ⌝ }
 {
-    let read = fields::read_three(query, word, store);
+    let read = fields::read_case(query, word, store);
     let one = read.one;
     let two = read.two;
     let three = read.three;
-    let count = fields::number_after(query, read.next);
-    let value = count.value;
-    if fields::ended(query, read.whole && count.whole, count.next) {
+    let value = read.value;
+    if read.whole {
         let numbers = read_table(&store[two..three], table);
         piece_at(
             query,

@@ -228,3 +228,28 @@ pub fn number_after(query: &[u8], at: usize) -> Number
         }
     }
 }
+
+// Three fields and a number behind them, to the query's end.
+pub struct Case {
+    pub whole: bool,
+    pub one: usize,
+    pub two: usize,
+    pub three: usize,
+    pub value: usize,
+}
+
+// The three fields and the number behind a position, if nothing else stands there.
+pub fn read_case(query: &[u8], at: usize, store: &mut [u8]) -> Case
+    requires { ⌜ at ≤ length (now query) ⌝ }
+    ensures { λ r. ⌜ (r .one ≤ r .two) × (r .two ≤ r .three) × (r .three ≤ length (now (store .entry))) ⌝ }
+{
+    let read = read_three(query, at, store);
+    let number = number_after(query, read.next);
+    Case {
+        whole: ended(query, read.whole && number.whole, number.next),
+        one: read.one,
+        two: read.two,
+        three: read.three,
+        value: number.value,
+    }
+}
