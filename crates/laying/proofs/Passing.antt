@@ -8,6 +8,7 @@ use lib.ListN.{length}
 use Rattle.paper.specs.Check.{modeOf}
 use Rattle.paper.specs.Machine.{Core, size, passFork, ending}
 use Rattle.paper.specs.Tables.{placeOf}
+use Rattle.laying.specs.Room.{mostPlaces}
 use Rattle.pattern.specs.Walk.{passPlaces}
 use Rattle.laying.specs.Laid.{Holds, Kept, entryOf, Lays}
 use Rattle.laying.specs.Single.{Fitting, Put, Forked}
@@ -97,7 +98,7 @@ must-begun {p = p} {least = least} {may = may} {base = base} {next = next} v m s
     record {
       head = record { no-set = omega arith; a-small = m .first-small; n-small = m .groups-small };
       room = omega (arith, m .room, places-must least may p some);
-      follows = omega (arith, ev, entry-small (least - 1 + may) (base + 1 + p) next {most = 510} (omega (arith, m .room, places-must least may p some)) (m .follows));
+      follows = omega (arith, ev, entry-small (least - 1 + may) (base + 1 + p) next {most = mostPlaces} (omega (arith, m .room, places-must least may p some)) (m .follows));
       stands = model-as (m .stands) (inner-must least base some);
     }
 

@@ -9,6 +9,7 @@ use native.Mathlib.Omega.{arith}
 use borrow.Author.Tests.{ne-eqb, lt-ltb}
 use lib.Dec.{ltb}
 use lib.ListN.{length}
+use Rattle.paper.specs.Limits.{patternBytes, patternPlaces}
 use Rattle.paper.specs.Pattern.{Mode, Upper, upTo, noEnd, Pattern, Members, places, placesOfAll, groups, groupsOfAll, repeatPlaces}
 use Rattle.paper.specs.Pattern.Pattern.{nothing, empty, bytes, group, sequence, alternation, repeat}
 use Rattle.paper.specs.Pattern.Members.{two, more}
@@ -85,7 +86,7 @@ repeat-more zero (upTo zero) p right some = absurd (omega arith)
 repeat-more zero (upTo (suc most)) p right some = omega (arith, mul-le-mul-right {m = 1} {n = suc most - zero} (3 + p) (omega arith))
 
 -- the places of a repeat by cut places inside: where the repeat has none, the inside does not matter
-pub repeat-cut : (least : ℕ) (upper : Upper) (p q : ℕ) → CountsRight least upper → (p ≤ 500 → q ≡ p) → repeatPlaces least upper p ≤ 500
+pub repeat-cut : (least : ℕ) (upper : Upper) (p q : ℕ) → CountsRight least upper → (p ≤ patternPlaces → q ≡ p) → repeatPlaces least upper p ≤ patternPlaces
     → repeatPlaces least upper q ≡ repeatPlaces least upper p
 repeat-cut least noEnd p q right same small = ap (repeatPlaces least noEnd) (same (omega (arith, repeat-more least noEnd p right (omega arith))))
 repeat-cut (suc least) (upTo most) p q right same small =
@@ -95,8 +96,8 @@ repeat-cut zero (upTo (suc most)) p q right same small =
     ap (repeatPlaces zero (upTo (suc most))) (same (omega (arith, mul-le-mul-right {m = 1} {n = suc most - zero} (3 + p) (omega arith))))
 
 -- the places of a record are those that its kind gives
-pub own-places : (e : Pattern) (bs : List ℕ) (at p k : ℕ) → Stands bs at e → (placesIn (held e) ≤ 500 → p ≡ placesIn (held e)) → k ≡ length (held e)
-    → places e ≤ 500 → ownPlaces bs (kindAt bs at) (bodyStart at) p k ≡ places e
+pub own-places : (e : Pattern) (bs : List ℕ) (at p k : ℕ) → Stands bs at e → (placesIn (held e) ≤ patternPlaces → p ≡ placesIn (held e)) → k ≡ length (held e)
+    → places e ≤ patternPlaces → ownPlaces bs (kindAt bs at) (bodyStart at) p k ≡ places e
 own-places nothing bs at p k h same count small = ap (λ (n : ℕ). ownPlaces bs n (bodyStart at) p k) h
 own-places empty bs at p k h same count small = ap (λ (n : ℕ). ownPlaces bs n (bodyStart at) p k) h
 own-places (bytes ranges) bs at p k h same count small = ap (λ (n : ℕ). ownPlaces bs n (bodyStart at) p k) (h .0)
@@ -173,7 +174,7 @@ repeat-right (alternation ms) bs at h six = absurd (omega (arith, h .0))
 repeat-right (repeat least upper mode e) bs at h six = counts-right (h .1)
 
 -- what `own_places` asks holds of a record that stands
-pub own-asked : (e : Pattern) (bs : List ℕ) (at p k : ℕ) → Stands bs at e → bodyEnd bs at ≤ length bs → length bs ≤ 4096 → p ≤ 500
+pub own-asked : (e : Pattern) (bs : List ℕ) (at p k : ℕ) → Stands bs at e → bodyEnd bs at ≤ length bs → length bs ≤ patternBytes → p ≤ patternPlaces
     → k ≡ length (held e) → OwnPlaces bs (kindAt bs at) (bodyStart at) p k
 own-asked e bs at p k h ends short small count =
     record {
@@ -194,20 +195,20 @@ pub record First (bs : List ℕ) (at stop : ℕ) : Type 0 where
   pub stand : Stands bs at tree
   pub fits : bodyEnd bs at ≤ stop
   pub ends : stop ≤ length bs
-  pub short : length bs ≤ 4096
+  pub short : length bs ≤ patternBytes
   pub few : groups tree ≤ 10
 
 -- what is summed so far, beside the records from here on, is the sum of all
 pub record Rest (bs : List ℕ) (at stop : ℕ) (all : List Pattern) (p g k : ℕ) : Type 0 where
   pub records : List Pattern
   pub stand : Row bs at stop records
-  pub places-left : placesIn all ≤ 500 → p + placesIn records ≡ placesIn all
+  pub places-left : placesIn all ≤ patternPlaces → p + placesIn records ≡ placesIn all
   pub groups-left : g + groupsIn records ≡ groupsIn all
   pub count-left : k + length records ≡ length all
 
 -- what the loop over a row keeps: the sum so far is cut, and with the rest it makes the whole for every tree
 pub record Adding (bs : List ℕ) (at stop from p g k : ℕ) : Type 0 where
-  pub small : p ≤ 500
+  pub small : p ≤ patternPlaces
   pub passed : at + k ≤ from
   pub before : from ≤ stop
   pub rest : (m : Counting bs at stop) → Rest bs from stop (m .records) p g k
@@ -223,7 +224,7 @@ adding-none {bs} {at} {stop} m =
     }
 
 -- where records are left there is a first
-first-of : {bs : List ℕ} {from stop p g k : ℕ} {all : List Pattern} → stop ≤ length bs → length bs ≤ 4096 → groupsIn all ≤ 10 → from < stop
+first-of : {bs : List ℕ} {from stop p g k : ℕ} {all : List Pattern} → stop ≤ length bs → length bs ≤ patternBytes → groupsIn all ≤ 10 → from < stop
     → Rest bs from stop all p g k → First bs from stop
 first-of {bs} {from} {stop} {g = g} {all = all} ends short few lt r = on (r .records) (r .stand) (r .groups-left)
   where
@@ -248,13 +249,13 @@ first-inside {bs} {at} f =
     }
 
 -- one record more: its places, cut, and its groups are added
-more-rest : {bs : List ℕ} {from stop p g k ip ig ik q : ℕ} {all : List Pattern} → stop ≤ length bs → length bs ≤ 4096 → groupsIn all ≤ 10 → from < stop
+more-rest : {bs : List ℕ} {from stop p g k ip ig ik q : ℕ} {all : List Pattern} → stop ≤ length bs → length bs ≤ patternBytes → groupsIn all ≤ 10 → from < stop
     → Counted bs (insideStart (kindAt bs from) (bodyStart from) (bodyEnd bs from)) (bodyEnd bs from) ip ig ik
     → q ≡ capped (p + ownPlaces bs (kindAt bs from) (bodyStart from) ip ik)
     → Rest bs from stop all p g k → Rest bs (bodyEnd bs from) stop all q (g + ownGroups (kindAt bs from) ig) (k + 1)
 more-rest {bs} {from} {stop} {p} {g} {k} {ip} {ig} {ik} {q} {all} ends short few lt c cut r = on (r .records) (r .stand) (r .places-left) (r .groups-left) (r .count-left)
   where
-    on : (es : List Pattern) → Row bs from stop es → (placesIn all ≤ 500 → p + placesIn es ≡ placesIn all) → g + groupsIn es ≡ groupsIn all
+    on : (es : List Pattern) → Row bs from stop es → (placesIn all ≤ patternPlaces → p + placesIn es ≡ placesIn all) → g + groupsIn es ≡ groupsIn all
         → k + length es ≡ length all → Rest bs (bodyEnd bs from) stop all q (g + ownGroups (kindAt bs from) ig) (k + 1)
     on [] h ps gs ks = absurd (omega arith)
     on (e ∷ es) h ps gs ks =
@@ -299,7 +300,7 @@ pub adding-all : {bs : List ℕ} {at stop from p g k : ℕ} → Adding bs at sto
 adding-all {bs} {at} {stop} {from} {p} {g} {k} a le =
     record { small = a .small; sums = λ m. let r = a .rest m in done (m .records) (r .records) (r .stand) (r .places-left) (r .groups-left) (r .count-left) }
   where
-    done : (all es : List Pattern) → Row bs from stop es → (placesIn all ≤ 500 → p + placesIn es ≡ placesIn all) → g + groupsIn es ≡ groupsIn all
+    done : (all es : List Pattern) → Row bs from stop es → (placesIn all ≤ patternPlaces → p + placesIn es ≡ placesIn all) → g + groupsIn es ≡ groupsIn all
         → k + length es ≡ length all → Summed all p g k
     done all [] h ps gs ks = record { places-are = λ few. omega (arith, ps few); groups-are = omega arith; records-are = omega arith }
     done all (e ∷ es) h ps gs ks = absurd (omega (arith, row-long es bs _ stop (h .1)))

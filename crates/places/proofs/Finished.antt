@@ -14,6 +14,7 @@ use Rattle.paper.specs.Match.{wrap}
 use Rattle.paper.specs.Bounds.{searchPlaces}
 use Rattle.paper.proofs.layout.Accepted.{accepted-injective}
 use Rattle.paper.proofs.machine.Sizes.{size-written}
+use Rattle.laying.specs.Room.{mostPlaces}
 use Rattle.laying.specs.Laid.{Holds, Kept, Lays}
 use Rattle.laying.specs.Single.{Put, StarLaid}
 use Rattle.laying.proofs.Stores.{put-holds, plain-holds, holds-kept, lays-kept, kept-both}
@@ -40,7 +41,7 @@ whole-few {bs} a =
     (omega (arith, w .few-places, a .places-are), omega (arith, w .few-groups, a .groups-are))
 
 -- its places stand from some index on, its first group is number 1
-abbrev pub whole-one : {bs : List ℕ} {e : Pattern} {p g : ℕ} (base next : ℕ) → Whole bs e → p ≡ places e → g ≡ groups e → base + p ≤ 510 → next ≤ 510
+abbrev pub whole-one : {bs : List ℕ} {e : Pattern} {p g : ℕ} (base next : ℕ) → Whole bs e → p ≡ places e → g ≡ groups e → base + p ≤ mostPlaces → next ≤ 510
     → One bs 0 (length bs) base next 1 p g
 whole-one {bs} {e} base next w same sameg room follows =
     record {

@@ -9,6 +9,7 @@ use Rattle.paper.specs.Pattern.{Pattern, places, groups}
 use Rattle.paper.specs.Check.{bodyEnd}
 use Rattle.paper.specs.Machine.{Core, chain, either, size, writtenOut, fork}
 use Rattle.paper.proofs.machine.Sizes.{size-written}
+use Rattle.laying.specs.Room.{mostPlaces}
 use Rattle.pattern.specs.Walk.{placesIn, groupsIn}
 use Rattle.laying.specs.Laid.{Holds, entryOf, Lays}
 use Rattle.laying.specs.Single.{Fitting, Put}
@@ -162,7 +163,7 @@ module _ {bs : List ℕ} {at stop base next first n gs end p g k : ℕ} (ee : en
         groups-are = more-groups ee es c m;
         small = omega (arith, chain-sum m, m .small);
         room = omega (arith, chain-sum m, m .room);
-        follows = omega (arith, ev, entry-small (n - p) (base + p) next {most = 510} (omega (arith, chain-sum m, m .room)) (m .follows));
+        follows = omega (arith, ev, entry-small (n - p) (base + p) next {most = mostPlaces} (omega (arith, chain-sum m, m .room)) (m .follows));
       }
 
   -- what the others are asked for
