@@ -7,9 +7,9 @@ use mathlib.Core.List.{List}
 use lib.ListN.{length}
 use Rattle.machine.specs.declared.Built.{Built}
 use Rattle.machine.specs.declared.Built.TheVariants.{Refused, Machine}
-use Rattle.memory.specs.Memory.{machineNumbers, MachineOf, Runs, BuildsIn}
-use Rattle.memory.proofs.Keeping.{held-machine}
-use Rattle.telling.specs.Told.{answered, Tells, builtNumbers}
+use Rattle.memory.specs.Memory.{machine_numbers, MachineOf, Runs, BuildsIn}
+use Rattle.memory.proofs.Keeping.{held_machine}
+use Rattle.telling.specs.Told.{answered, Tells, built_numbers}
 use Rattle.exports.specs.Replies.{Untouched, BuildReplies}
 use Rattle.exports.proofs.OneReply.{by_length}
 
@@ -18,13 +18,13 @@ not_short : {P : Type 0} {out after : List ℕ} → Untouched out answered after
 not_short u = let z : ◌≡◌ {A = ℕ} 0 255 = u.0 in absurd (omega arith)
 
 -- a refusal has another status, and any other answer leaves the machine
-machine-built : (pattern : List ℕ) (searches : Bool) (before machine : List ℕ) (r : Built) {out after : List ℕ} → BuildsIn pattern searches before machine r
-    → Tells (builtNumbers r) out answered after → MachineOf pattern machine
-machine-built pattern searches before machine (Refused number place) b t = absurd (omega (arith, t.numbered.0, t.status-is))
-machine-built pattern searches before machine (Machine places deep many) b t = held-machine b
+machine_built : (pattern : List ℕ) (searches : Bool) (before machine : List ℕ) (r : Built) {out after : List ℕ} → BuildsIn pattern searches before machine r
+    → Tells (built_numbers r) out answered after → MachineOf pattern machine
+machine_built pattern searches before machine (Refused number place) b t = absurd (omega (arith, t.numbered.0, t.status_is))
+machine_built pattern searches before machine (Machine places deep many) b t = held_machine b
 
-pub answered-build-runs : {pattern : List ℕ} {searches : Bool} {before machine out after : List ℕ} → BuildReplies pattern searches before machine out answered after
+pub answered_build_runs : {pattern : List ℕ} {searches : Bool} {before machine out after : List ℕ} → BuildReplies pattern searches before machine out answered after
     → Runs pattern machine
-answered-build-runs {pattern} {searches} {before} {machine} {out} p =
+answered_build_runs {pattern} {searches} {before} {machine} {out} p =
     by_length (length out) 3 (λ h. not_short (p.short h).0)
-    (λ h. by_length (length before) machineNumbers (λ k. not_short (p.small k).0) (λ k. let t = p.told h k in λ room. machine-built pattern searches before machine t.0 t.1 t.2))
+    (λ h. by_length (length before) machine_numbers (λ k. not_short (p.small k).0) (λ k. let t = p.told h k in λ room. machine_built pattern searches before machine t.0 t.1 t.2))

@@ -1,7 +1,7 @@
 // The limits, and how long lent memory has to be.
 ghost use Rattle.std.specs.Prelude.{◌≡◌};
-ghost use Rattle.paper.specs.Limits.{patternBytes, templateBytes, lineBytes, rowCount, tableNumbers};
-ghost use Rattle.memory.specs.Memory.{machineNumbers, scratchNumbers};
+ghost use Rattle.paper.specs.Limits.{pattern_bytes, template_bytes, line_bytes, row_count, table_numbers};
+ghost use Rattle.memory.specs.Memory.{machine_numbers, scratch_numbers};
 
 use machine::Machine;
 use memory::Memory;
@@ -23,7 +23,7 @@ impl Lent {
 // The longest pattern.
 #[unsafe(no_mangle)]
 pub extern "C" fn toj_pattern_bytes() -> usize
-    ensures { result ≡ patternBytes }
+    ensures { result ≡ pattern_bytes }
 {
     Pattern::BYTES
 }
@@ -31,7 +31,7 @@ pub extern "C" fn toj_pattern_bytes() -> usize
 // The longest template.
 #[unsafe(no_mangle)]
 pub extern "C" fn toj_template_bytes() -> usize
-    ensures { result ≡ templateBytes }
+    ensures { result ≡ template_bytes }
 {
     Template::BYTES
 }
@@ -39,7 +39,7 @@ pub extern "C" fn toj_template_bytes() -> usize
 // The longest line.
 #[unsafe(no_mangle)]
 pub extern "C" fn toj_line_bytes() -> usize
-    ensures { result ≡ lineBytes }
+    ensures { result ≡ line_bytes }
 {
     Line::BYTES
 }
@@ -47,7 +47,7 @@ pub extern "C" fn toj_line_bytes() -> usize
 // The rows of a span table.
 #[unsafe(no_mangle)]
 pub extern "C" fn toj_rows() -> usize
-    ensures { result ≡ rowCount }
+    ensures { result ≡ row_count }
 {
     Spans::ROWS
 }
@@ -55,7 +55,7 @@ pub extern "C" fn toj_rows() -> usize
 // The numbers of a span table.
 #[unsafe(no_mangle)]
 pub extern "C" fn toj_table_numbers() -> usize
-    ensures { result ≡ tableNumbers }
+    ensures { result ≡ table_numbers }
 {
     Spans::NUMBERS
 }
@@ -63,7 +63,7 @@ pub extern "C" fn toj_table_numbers() -> usize
 // The numbers of a built machine.
 #[unsafe(no_mangle)]
 pub extern "C" fn toj_machine_numbers() -> usize
-    ensures { result ≡ machineNumbers }
+    ensures { result ≡ machine_numbers }
 {
     Lent::MACHINE
 }
@@ -71,7 +71,7 @@ pub extern "C" fn toj_machine_numbers() -> usize
 // The numbers of each of the four memories that a machine is run in.
 #[unsafe(no_mangle)]
 pub extern "C" fn toj_scratch_numbers() -> usize
-    ensures { result ≡ scratchNumbers }
+    ensures { result ≡ scratch_numbers }
 {
     Lent::SCRATCH
 }

@@ -1,7 +1,7 @@
 // A job: a record whose body is a pattern, then records whose bodies are lines (01, "Known answers", on pick); and what is printed for each.
 ghost use Rattle.std.specs.Prelude.{◌≤◌, ◌≡◌, [], ◌∷◌, length};
 ghost use Rattle.printer.specs.Gathered.{Gathered};
-ghost use Rattle.job.specs.Comes.{comes, patternRecord, lineRecord, bodyBytes};
+ghost use Rattle.job.specs.Comes.{comes, pattern_record, line_record, body_bytes};
 
 use pattern::Spans;
 use records::Header;
@@ -19,7 +19,7 @@ impl Job {
 
     // The numbers above are those of specs/.
     pub fn all() -> [usize; 3]
-        ensures { result ≡ patternRecord ∷ lineRecord ∷ bodyBytes ∷ [] }
+        ensures { result ≡ pattern_record ∷ line_record ∷ body_bytes ∷ [] }
     {
         [Job::PATTERN, Job::LINE, Job::BODY]
     }

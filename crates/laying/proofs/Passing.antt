@@ -6,304 +6,304 @@ use mathlib.Core.List.{List}
 use native.Mathlib.Omega.{arith}
 use lib.ListN.{length}
 use Rattle.paper.specs.Check.{mode_of}
-use Rattle.paper.specs.Machine.{Core, size, passFork, ending}
+use Rattle.paper.specs.Machine.{Core, size, pass_fork, ending}
 use Rattle.paper.specs.Tables.{place_of}
-use Rattle.laying.specs.Room.{mostPlaces}
-use Rattle.pattern.specs.Walk.{passPlaces}
+use Rattle.laying.specs.Room.{most_places}
+use Rattle.pattern.specs.Walk.{pass_places}
 use Rattle.laying.specs.Laid.{Holds, Kept, entry_of, Lays}
 use Rattle.laying.specs.Single.{Fitting, Put, Forked}
-use Rattle.laying.specs.Copies.{Model, inPlace, ahead, Moving, Copied}
-use Rattle.laying.specs.Repeats.{passCore, innerStart, Begun, BegunLaid, Repeating, PassesLaid, PassesLeft}
-use Rattle.laying.proofs.Stores.{plain-holds, holds_kept, lays-kept, lays-behind, kept-none, kept-both}
-use Rattle.laying.proofs.Entering.{entry-some, entry-small, entry-same, passes-some, passes_none, places-must, places-may, inner-must, inner-may, core-must, core-none, core-star, core-maybe, must-lays, maybe-lays, star-lays, end-small}
+use Rattle.laying.specs.Copies.{Model, in_place, ahead, Moving, Copied}
+use Rattle.laying.specs.Repeats.{pass_core, inner_start, Begun, BegunLaid, Repeating, PassesLaid, PassesLeft}
+use Rattle.laying.proofs.Stores.{plain_holds, holds_kept, lays_kept, lays_behind, kept_none, kept_both}
+use Rattle.laying.proofs.Entering.{entry_some, entry_small, entry_same, passes_some, passes_none, places_must, places_may, inner_must, inner_may, core_must, core_none, core_star, core_maybe, must_lays, maybe_lays, star_lays, end_small}
 use Rattle.laying.proofs.Copying.{copy_lays}
-use Rattle.laying.proofs.Sizes.{pass-size}
-use Rattle.laying.proofs.Single.{head-stands}
+use Rattle.laying.proofs.Sizes.{pass_size}
+use Rattle.laying.proofs.Single.{head_stands}
 
 -- where what is copied stands, by another name
-model-as : {model p wanted wanted' base : ℕ} → Model model p wanted base → wanted ≡ wanted' → Model model p wanted' base
-model-as (inPlace same) e = inPlace (same ∙ e)
-model-as (ahead first) e = ahead first
+model_as : {model p wanted wanted' base : ℕ} → Model model p wanted base → wanted ≡ wanted' → Model model p wanted' base
+model_as (in_place same) e = in_place (same ∙ e)
+model_as (ahead first) e = ahead first
 
 -- and before a later index
-model-later : {model p wanted base base' : ℕ} → Model model p wanted base → base ≤ base' → Model model p wanted base'
-model-later (inPlace same) le = inPlace same
-model-later (ahead first) le = ahead (omega arith)
+model_later : {model p wanted base base' : ℕ} → Model model p wanted base → base ≤ base' → Model model p wanted base'
+model_later (in_place same) le = in_place same
+model_later (ahead first) le = ahead (omega arith)
 
 -- it ends no later than where it is wanted
-model-ends : {model p wanted base : ℕ} → Model model p wanted base → base ≤ wanted → model + p ≤ wanted + p
-model-ends (inPlace same) le = omega arith
-model-ends (ahead first) le = omega arith
+model_ends : {model p wanted base : ℕ} → Model model p wanted base → base ≤ wanted → model + p ≤ wanted + p
+model_ends (in_place same) le = omega arith
+model_ends (ahead first) le = omega arith
 
 -- it goes on to stand where a place before the wanted one is written
-model-apart : {model p wanted base low high : ℕ} {t t1 : List ℕ} (e : Core) (bs : List ℕ) (next : ℕ) → p ≡ size e → Model model p wanted base → base ≤ low
+model_apart : {model p wanted base low high : ℕ} {t t1 : List ℕ} (e : Core) (bs : List ℕ) (next : ℕ) → p ≡ size e → Model model p wanted base → base ≤ low
     → high ≤ wanted → Kept low high t t1 → Lays t bs e model next → Lays t1 bs e model next
-model-apart e bs next ep (inPlace same) lo hi k = lays-behind e bs _ next k (omega arith)
-model-apart e bs next ep (ahead first) lo hi k = lays-kept e bs _ next k (omega arith)
+model_apart e bs next ep (in_place same) lo hi k = lays_behind e bs _ next k (omega arith)
+model_apart e bs next ep (ahead first) lo hi k = lays_kept e bs _ next k (omega arith)
 
 -- `begun`: its head fits
-pub begin-fits : {model p kind first g base next v : ℕ} {t : List ℕ} → Begun model p kind first g base next → 2040 ≤ length t → v ≡ entry_of p (base + 1) next
+pub begin_fits : {model p kind first g base next v : ℕ} {t : List ℕ} → Begun model p kind first g base next → 2040 ≤ length t → v ≡ entry_of p (base + 1) next
     → Fitting t base v first g
-begin-fits {p = p} {base = base} {next = next} m room ev =
+begin_fits {p = p} {base = base} {next = next} m room ev =
     record {
       room = omega (arith, m.room);
-      next_fits = omega (arith, ev, entry-small p (base + 1) next {most = 65535} (omega (arith, m.room)) (omega (arith, m.follows)));
-      a-fits = omega (arith, m.head.a_small);
-      n-fits = omega (arith, m.head.n-small);
+      next_fits = omega (arith, ev, entry_small p (base + 1) next {most = 65535} (omega (arith, m.room)) (omega (arith, m.follows)));
+      a_fits = omega (arith, m.head.a_small);
+      n_fits = omega (arith, m.head.n_small);
     }
 
 -- what is copied stands where it is wanted, or before
-pub begin-moving : {model p kind first g base next : ℕ} → Begun model p kind first g base next → Moving model p (base + 1) next
-begin-moving m =
+pub begin_moving : {model p kind first g base next : ℕ} → Begun model p kind first g base next → Moving model p (base + 1) next
+begin_moving m =
     record {
-      model-room = omega (arith, m.room, model-ends m.stands (omega arith));
+      model_room = omega (arith, m.room, model_ends m.stands (omega arith));
       room = m.room;
       follows = m.follows;
-      apart = model-later m.stands (omega arith);
+      apart = model_later m.stands (omega arith);
     }
 
 -- the head and the copy
-pub begun-laid : {model p kind first g base next v : ℕ} {t t1 t2 : List ℕ} → Begun model p kind first g base next → v ≡ entry_of p (base + 1) next
+pub begun_laid : {model p kind first g base next v : ℕ} {t t1 t2 : List ℕ} → Begun model p kind first g base next → v ≡ entry_of p (base + 1) next
     → Put t base kind v first g t1 → Copied model p (base + 1) next p t1 t2 → BegunLaid model p kind first g base next t t2
-begun-laid {p = p} {base = base} m ev put copy =
+begun_laid {p = p} {base = base} m ev put copy =
     record {
-      kept = kept-both base (base + 1 + p) put.kept copy.kept (omega arith) (omega arith) (omega arith) (omega arith);
-      head = λ bs. holds_kept copy.kept (omega arith) (head-stands bs ev m.head put);
-      laid = λ bs e ep there. copy_lays copy bs e ep (model-apart e bs _ ep m.stands (omega arith) (omega arith) put.kept there);
+      kept = kept_both base (base + 1 + p) put.kept copy.kept (omega arith) (omega arith) (omega arith) (omega arith);
+      head = λ bs. holds_kept copy.kept (omega arith) (head_stands bs ev m.head put);
+      laid = λ bs e ep there. copy_lays copy bs e ep (model_apart e bs _ ep m.stands (omega arith) (omega arith) put.kept there);
     }
 
 -- the head, where what would be copied stands already and leads where it should
-pub begun-there : {model p kind first g base next v : ℕ} {t t1 : List ℕ} → Begun model p kind first g base next → v ≡ entry_of p (base + 1) next
+pub begun_there : {model p kind first g base next v : ℕ} {t t1 : List ℕ} → Begun model p kind first g base next → v ≡ entry_of p (base + 1) next
     → Put t base kind v first g t1 → model ≡ base + 1 → next ≡ base + 1 + p → BegunLaid model p kind first g base next t t1
-begun-there {p = p} {base = base} {t1 = t1} m ev put here leads =
+begun_there {p = p} {base = base} {t1 = t1} m ev put here leads =
     record {
-      kept = kept-both base (base + 1 + p) put.kept (kept-none base base t1) (omega arith) (omega arith) (omega arith) (omega arith);
-      head = λ bs. head-stands bs ev m.head put;
+      kept = kept_both base (base + 1 + p) put.kept (kept_none base base t1) (omega arith) (omega arith) (omega arith) (omega arith);
+      head = λ bs. head_stands bs ev m.head put;
       laid = λ bs e ep there.
           subst (Lays t1 bs e (base + 1)) (sym leads)
-          (subst (λ (x : ℕ). Lays t1 bs e x (x + p)) here (model-apart e bs _ ep m.stands (omega arith) (omega arith) put.kept there));
+          (subst (λ (x : ℕ). Lays t1 bs e x (x + p)) here (model_apart e bs _ ep m.stands (omega arith) (omega arith) put.kept there));
     }
 
 -- what is copied goes on to stand behind a pass that others follow
-model-stays : {model p kind first g base v : ℕ} {t t1 : List ℕ} (e : Core) (bs : List ℕ) → BegunLaid model p kind first g base v t t1
+model_stays : {model p kind first g base v : ℕ} {t t1 : List ℕ} (e : Core) (bs : List ℕ) → BegunLaid model p kind first g base v t t1
     → Model model p (base + 1) base → p ≡ size e → v ≡ base + 1 + p → Lays t bs e model (model + p) → Lays t1 bs e model (model + p)
-model-stays {p = p} {base = base} {t1 = t1} e bs h (inPlace same) ep ev there =
+model_stays {p = p} {base = base} {t1 = t1} e bs h (in_place same) ep ev there =
     subst (λ (x : ℕ). Lays t1 bs e x (x + p)) (sym same) (subst (Lays t1 bs e (base + 1)) ev (h.laid bs e ep there))
-model-stays e bs h (ahead first) ep ev there = lays-kept e bs _ _ h.kept (omega arith) there
+model_stays e bs h (ahead first) ep ev there = lays_kept e bs _ _ h.kept (omega arith) there
 
 -- `passes`, a pass that must be made: the pass, then the rest. What the pass is asked for
-pub must-begun : {model p first g least may base next : ℕ} {endless : Bool} (v : ℕ) → Repeating model p first g least may endless base next
+pub must_begun : {model p first g least may base next : ℕ} {endless : Bool} (v : ℕ) → Repeating model p first g least may endless base next
     → (least ≡ 0 → ⊥) → v ≡ entry_of (least - 1 + may) (base + 1 + p) next → Begun model p 3 first g base v
-must-begun {p = p} {least = least} {may = may} {base = base} {next = next} v m some ev =
+must_begun {p = p} {least = least} {may = may} {base = base} {next = next} v m some ev =
     record {
-      head = record { no-set = omega arith; a_small = m.first_small; n-small = m.groups-small };
-      room = omega (arith, m.room, places-must least may p some);
-      follows = omega (arith, ev, entry-small (least - 1 + may) (base + 1 + p) next {most = mostPlaces} (omega (arith, m.room, places-must least may p some)) m.follows);
-      stands = model-as m.stands (inner-must least base some);
+      head = record { no_set = omega arith; a_small = m.first_small; n_small = m.groups_small };
+      room = omega (arith, m.room, places_must least may p some);
+      follows = omega (arith, ev, entry_small (least - 1 + may) (base + 1 + p) next {most = most_places} (omega (arith, m.room, places_must least may p some)) m.follows);
+      stands = model_as m.stands (inner_must least base some);
     }
 
 -- what the rest is asked for
-pub must-rest : {model p first g least may base next : ℕ} {endless : Bool} → Repeating model p first g least may endless base next → (least ≡ 0 → ⊥)
+pub must_rest : {model p first g least may base next : ℕ} {endless : Bool} → Repeating model p first g least may endless base next → (least ≡ 0 → ⊥)
     → Repeating model p first g (least - 1) may endless (base + 1 + p) next
-must-rest {p = p} {least = least} {may = may} {base = base} m some =
+must_rest {p = p} {least = least} {may = may} {base = base} m some =
     record {
       first_small = m.first_small;
-      groups-small = m.groups-small;
+      groups_small = m.groups_small;
       once = m.once;
-      room = omega (arith, m.room, places-must least may p some);
+      room = omega (arith, m.room, places_must least may p some);
       follows = m.follows;
-      stands = ahead (model-ends (model-as m.stands (inner-must least base some)) (omega arith));
+      stands = ahead (model_ends (model_as m.stands (inner_must least base some)) (omega arith));
     }
 
 -- the pass and the rest lay the passes
-pub must-laid : {model p first g least may mode base next v : ℕ} {endless : Bool} {t t1 t2 : List ℕ} → Repeating model p first g least may endless base next
+pub must_laid : {model p first g least may mode base next v : ℕ} {endless : Bool} {t t1 t2 : List ℕ} → Repeating model p first g least may endless base next
     → (least ≡ 0 → ⊥) → v ≡ entry_of (least - 1 + may) (base + 1 + p) next → BegunLaid model p 3 first g base v t t1
     → PassesLaid model p first g (least - 1) may endless mode (base + 1 + p) next t1 t2 → PassesLaid model p first g least may endless mode base next t t2
-must-laid {p = p} {first = first} {g = g} {least = least} {may = may} {mode = mode} {base = base} {next = next} {v = v} {endless = endless} {t2 = t2} m some ev h r =
+must_laid {p = p} {first = first} {g = g} {least = least} {may = may} {mode = mode} {base = base} {next = next} {v = v} {endless = endless} {t2 = t2} m some ev h r =
     record {
-      kept = kept-both base (base + passPlaces least may p) h.kept r.kept (omega arith) (omega (arith, places-must least may p some))
-          (omega arith) (omega (arith, places-must least may p some));
+      kept = kept_both base (base + pass_places least may p) h.kept r.kept (omega arith) (omega (arith, places_must least may p some))
+          (omega arith) (omega (arith, places_must least may p some));
       laid = λ bs e ep given.
           let there = given (λ z. some (omega arith)) in
-          let rest = passCore (least - 1) endless may (mode_of mode) first g e in
-          let er : size rest ≡ passPlaces (least - 1) may p =
-          pass-size (least - 1) endless may (mode_of mode) first g e m.once ∙ ap (passPlaces (least - 1) may) (sym ep) in
+          let rest = pass_core (least - 1) endless may (mode_of mode) first g e in
+          let er : size rest ≡ pass_places (least - 1) may p =
+          pass_size (least - 1) endless may (mode_of mode) first g e m.once ∙ ap (pass_places (least - 1) may) (sym ep) in
           let eo : v ≡ entry_of (size rest) (base + 1 + p) next =
           ev
-          ∙ entry-same (least - 1 + may) (passPlaces (least - 1) may p) (base + 1 + p) next (passes_none (least - 1) may p)
-          (passes-some (least - 1) may p)
+          ∙ entry_same (least - 1 + may) (pass_places (least - 1) may p) (base + 1 + p) next (passes_none (least - 1) may p)
+          (passes_some (least - 1) may p)
           ∙ ap (λ (k : ℕ). entry_of k (base + 1 + p) next) (sym er) in
-          subst (λ (c : Core). Lays t2 bs c base next) (sym (core-must (mode_of mode) first g e least endless may some))
-          (must-lays t2 bs first g e rest base next p v ep eo (holds_kept r.kept (omega arith) (h.head bs))
-          (lays-kept e bs (base + 1) v r.kept (omega arith) (h.laid bs e ep there))
+          subst (λ (c : Core). Lays t2 bs c base next) (sym (core_must (mode_of mode) first g e least endless may some))
+          (must_lays t2 bs first g e rest base next p v ep eo (holds_kept r.kept (omega arith) (h.head bs))
+          (lays_kept e bs (base + 1) v r.kept (omega arith) (h.laid bs e ep there))
           (r.laid bs e ep
-          (λ more. model-stays e bs h (model-as m.stands (inner-must least base some)) ep (ev ∙ entry-some (least - 1 + may) (base + 1 + p) next more) there)));
+          (λ more. model_stays e bs h (model_as m.stands (inner_must least base some)) ep (ev ∙ entry_some (least - 1 + may) (base + 1 + p) next more) there)));
     }
 
-may-inner : (least base : ℕ) → least ≡ 0 → innerStart least base ≡ base + 1 + 1
-may-inner least base none = inner-may least base none ∙ omega arith
+may_inner : (least base : ℕ) → least ≡ 0 → inner_start least base ≡ base + 1 + 1
+may_inner least base none = inner_may least base none ∙ omega arith
 
 -- an optional pass: its fork, the pass, its end, then the rest. What the pass is asked for
-pub may-begun : {model p first g least may base next : ℕ} {endless : Bool} → Repeating model p first g least may endless base next → least ≡ 0
+pub may_begun : {model p first g least may base next : ℕ} {endless : Bool} → Repeating model p first g least may endless base next → least ≡ 0
     → (may ≡ 0 → ⊥) → Begun model p 4 first g (base + 1) (base + 1 + 1 + p)
-may-begun {p = p} {least = least} {may = may} {base = base} m none some =
+may_begun {p = p} {least = least} {may = may} {base = base} m none some =
     record {
-      head = record { no-set = omega arith; a_small = m.first_small; n-small = m.groups-small };
-      room = omega (arith, m.room, places-may least may p none some);
-      follows = omega (arith, m.room, places-may least may p none some);
-      stands = model-later (model-as m.stands (may-inner least base none)) (omega arith);
+      head = record { no_set = omega arith; a_small = m.first_small; n_small = m.groups_small };
+      room = omega (arith, m.room, places_may least may p none some);
+      follows = omega (arith, m.room, places_may least may p none some);
+      stands = model_later (model_as m.stands (may_inner least base none)) (omega arith);
     }
 
 -- what the rest is asked for
-pub may-rest : {model p first g least may base next : ℕ} {endless : Bool} → Repeating model p first g least may endless base next → least ≡ 0
+pub may_rest : {model p first g least may base next : ℕ} {endless : Bool} → Repeating model p first g least may endless base next → least ≡ 0
     → (may ≡ 0 → ⊥) → Repeating model p first g 0 (may - 1) endless (base + 1 + 1 + p + 1) next
-may-rest {p = p} {least = least} {may = may} {base = base} m none some =
+may_rest {p = p} {least = least} {may = may} {base = base} m none some =
     record {
       first_small = m.first_small;
-      groups-small = m.groups-small;
+      groups_small = m.groups_small;
       once = λ e. omega (arith, m.once e);
-      room = omega (arith, m.room, places-may least may p none some);
+      room = omega (arith, m.room, places_may least may p none some);
       follows = m.follows;
-      stands = ahead (omega (arith, model-ends (model-as m.stands (may-inner least base none)) (omega arith)));
+      stands = ahead (omega (arith, model_ends (model_as m.stands (may_inner least base none)) (omega arith)));
     }
 
 -- the numbers of its end fit
 pub end_fits : {model p first g least may base next v : ℕ} {endless : Bool} {t : List ℕ} → Repeating model p first g least may endless base next → least ≡ 0
     → (may ≡ 0 → ⊥) → v ≡ cond endless base (entry_of (may - 1) (base + 1 + 1 + p + 1) next) → 2040 ≤ length t → Fitting t (base + 1 + 1 + p) v 0 0
 end_fits {p = p} {least = least} {may = may} {base = base} {next = next} {endless = endless} m none some ev room =
-    let total = places-may least may p none some in
+    let total = places_may least may p none some in
     record {
       room = omega (arith, m.room);
       next_fits = omega (
         arith,
         ev,
-        end-small endless (may - 1) base (base + 1 + 1 + p + 1) next {most = 65535} (omega (arith, m.room)) (omega (arith, m.room))
+        end_small endless (may - 1) base (base + 1 + 1 + p + 1) next {most = 65535} (omega (arith, m.room)) (omega (arith, m.room))
             (omega (arith, m.follows)),
       );
-      a-fits = omega arith;
-      n-fits = omega arith;
+      a_fits = omega arith;
+      n_fits = omega arith;
     }
 
 module _ {model p first g least may mode base next v : ℕ} {endless : Bool} {t t1 t2 t3 t4 : List ℕ} (m : Repeating model p first g least may endless base next)
     (none : least ≡ 0) (some : may ≡ 0 → ⊥) (f : Forked t base mode (base + 1) next t1)
     (h : BegunLaid model p 4 first g (base + 1) (base + 1 + 1 + p) t1 t2) (end : Put t2 (base + 1 + 1 + p) 5 v 0 0 t3)
     (r : PassesLaid model p first g 0 (may - 1) endless mode (base + 1 + 1 + p + 1) next t3 t4) where
-  may-kept : Kept base (base + passPlaces least may p) t t4
-  may-kept =
-      let e = places-may least may p none some in
-      let high = base + passPlaces least may p in
-      kept-both base high
-      (kept-both base high (kept-both base high f.kept h.kept (omega arith) (omega arith) (omega arith) (omega arith)) end.kept (omega arith)
+  may_kept : Kept base (base + pass_places least may p) t t4
+  may_kept =
+      let e = places_may least may p none some in
+      let high = base + pass_places least may p in
+      kept_both base high
+      (kept_both base high (kept_both base high f.kept h.kept (omega arith) (omega arith) (omega arith) (omega arith)) end.kept (omega arith)
       (omega arith) (omega arith) (omega arith))
       r.kept (omega arith) (omega arith) (omega arith) (omega arith)
 
-  fork-stands : (bs : List ℕ) → Holds t4 bs base (passFork (mode_of mode) (base + 1) next)
-  fork-stands bs = holds_kept r.kept (omega arith) (holds_kept end.kept (omega arith) (holds_kept h.kept (omega arith) (f.held bs)))
+  fork_stands : (bs : List ℕ) → Holds t4 bs base (pass_fork (mode_of mode) (base + 1) next)
+  fork_stands bs = holds_kept r.kept (omega arith) (holds_kept end.kept (omega arith) (holds_kept h.kept (omega arith) (f.held bs)))
 
-  begin-stands : (bs : List ℕ) → Holds t4 bs (base + 1) (place_of bs 4 (entry_of p (base + 1 + 1) (base + 1 + 1 + p)) first g)
-  begin-stands bs = holds_kept r.kept (omega arith) (holds_kept end.kept (omega arith) (h.head bs))
+  begin_stands : (bs : List ℕ) → Holds t4 bs (base + 1) (place_of bs 4 (entry_of p (base + 1 + 1) (base + 1 + 1 + p)) first g)
+  begin_stands bs = holds_kept r.kept (omega arith) (holds_kept end.kept (omega arith) (h.head bs))
 
-  end-stands : (bs : List ℕ) → Holds t4 bs (base + 1 + 1 + p) (ending v)
-  end-stands bs = holds_kept r.kept (omega arith) (plain-holds bs end (omega arith))
+  end_stands : (bs : List ℕ) → Holds t4 bs (base + 1 + 1 + p) (ending v)
+  end_stands bs = holds_kept r.kept (omega arith) (plain_holds bs end (omega arith))
 
   -- what is copied, behind the fork
-  copied-fork : (bs : List ℕ) (e : Core) → p ≡ size e → Lays t bs e model (model + p) → Lays t1 bs e model (model + p)
-  copied-fork bs e ep = model-apart e bs (model + p) ep (model-as m.stands (may-inner least base none)) (omega arith) (omega arith) f.kept
+  copied_fork : (bs : List ℕ) (e : Core) → p ≡ size e → Lays t bs e model (model + p) → Lays t1 bs e model (model + p)
+  copied_fork bs e ep = model_apart e bs (model + p) ep (model_as m.stands (may_inner least base none)) (omega arith) (omega arith) f.kept
 
-  pass-stands : (bs : List ℕ) (e : Core) → p ≡ size e → Lays t bs e model (model + p) → Lays t4 bs e (base + 1 + 1) (base + 1 + 1 + p)
-  pass-stands bs e ep there =
-      lays-kept e bs (base + 1 + 1) (base + 1 + 1 + p) r.kept (omega arith)
-      (lays-kept e bs (base + 1 + 1) (base + 1 + 1 + p) end.kept (omega arith) (h.laid bs e ep (copied-fork bs e ep there)))
+  pass_stands : (bs : List ℕ) (e : Core) → p ≡ size e → Lays t bs e model (model + p) → Lays t4 bs e (base + 1 + 1) (base + 1 + 1 + p)
+  pass_stands bs e ep there =
+      lays_kept e bs (base + 1 + 1) (base + 1 + 1 + p) r.kept (omega arith)
+      (lays_kept e bs (base + 1 + 1) (base + 1 + 1 + p) end.kept (omega arith) (h.laid bs e ep (copied_fork bs e ep there)))
 
   -- what is copied, behind the pass
-  copied-pass : (bs : List ℕ) (e : Core) → p ≡ size e → Lays t bs e model (model + p) → Lays t3 bs e model (model + p)
-  copied-pass bs e ep there =
-      let s = model-as m.stands (may-inner least base none) in
-      lays-kept e bs model (model + p) end.kept (omega (arith, model-ends s (omega arith)))
-      (model-stays e bs h (model-later s (omega arith)) ep (omega arith) (copied-fork bs e ep there))
+  copied_pass : (bs : List ℕ) (e : Core) → p ≡ size e → Lays t bs e model (model + p) → Lays t3 bs e model (model + p)
+  copied_pass bs e ep there =
+      let s = model_as m.stands (may_inner least base none) in
+      lays_kept e bs model (model + p) end.kept (omega (arith, model_ends s (omega arith)))
+      (model_stays e bs h (model_later s (omega arith)) ep (omega arith) (copied_fork bs e ep there))
 
   -- the fork, the pass, its end and the rest lay the optional passes
-  may-lays : (bs : List ℕ) (e : Core) → p ≡ size e → Lays t bs e model (model + p) → (back : Bool) → endless ≡ back
+  may_lays : (bs : List ℕ) (e : Core) → p ≡ size e → Lays t bs e model (model + p) → (back : Bool) → endless ≡ back
       → v ≡ cond back base (entry_of (may - 1) (base + 1 + 1 + p + 1) next)
-      → Lays t4 bs (passCore least back may (mode_of mode) first g e) base next
-  may-lays bs e ep there true is ev =
-      subst (λ (c : Core). Lays t4 bs c base next) (sym (core-star (mode_of mode) first g e least may none some))
-      (star-lays t4 bs (mode_of mode) first g e base next p ep (fork-stands bs) (begin-stands bs) (pass-stands bs e ep there)
-      (subst (λ (v : ℕ). Holds t4 bs (base + 1 + 1 + p) (ending v)) ev (end-stands bs)))
-  may-lays bs e ep there false is ev =
-      let rest = passCore 0 false (may - 1) (mode_of mode) first g e in
-      let er : size rest ≡ passPlaces 0 (may - 1) p =
-      pass-size 0 false (may - 1) (mode_of mode) first g e (λ z. omega (arith, m.once (is ∙ z))) ∙ ap (passPlaces 0 (may - 1)) (sym ep) in
+      → Lays t4 bs (pass_core least back may (mode_of mode) first g e) base next
+  may_lays bs e ep there true is ev =
+      subst (λ (c : Core). Lays t4 bs c base next) (sym (core_star (mode_of mode) first g e least may none some))
+      (star_lays t4 bs (mode_of mode) first g e base next p ep (fork_stands bs) (begin_stands bs) (pass_stands bs e ep there)
+      (subst (λ (v : ℕ). Holds t4 bs (base + 1 + 1 + p) (ending v)) ev (end_stands bs)))
+  may_lays bs e ep there false is ev =
+      let rest = pass_core 0 false (may - 1) (mode_of mode) first g e in
+      let er : size rest ≡ pass_places 0 (may - 1) p =
+      pass_size 0 false (may - 1) (mode_of mode) first g e (λ z. omega (arith, m.once (is ∙ z))) ∙ ap (pass_places 0 (may - 1)) (sym ep) in
       let eo : v ≡ entry_of (size rest) (base + 1 + 1 + p + 1) next =
       ev
-      ∙ entry-same (may - 1) (passPlaces 0 (may - 1) p) (base + 1 + 1 + p + 1) next (λ z. passes_none 0 (may - 1) p (omega arith))
-      (λ z. omega (arith, passes-some 0 (may - 1) p z))
+      ∙ entry_same (may - 1) (pass_places 0 (may - 1) p) (base + 1 + 1 + p + 1) next (λ z. passes_none 0 (may - 1) p (omega arith))
+      (λ z. omega (arith, passes_some 0 (may - 1) p z))
       ∙ ap (λ (k : ℕ). entry_of k (base + 1 + 1 + p + 1) next) (sym er) in
-      let behind = r.laid bs e ep (λ more. copied-pass bs e ep there) in
-      subst (λ (c : Core). Lays t4 bs c base next) (sym (core-maybe (mode_of mode) first g e least may none some))
-      (maybe-lays t4 bs (mode_of mode) first g e rest base next p v ep eo (fork-stands bs) (begin-stands bs) (pass-stands bs e ep there) (end-stands bs)
-      (subst (λ (b : Bool). Lays t4 bs (passCore 0 b (may - 1) (mode_of mode) first g e) (base + 1 + 1 + p + 1) next) is behind))
+      let behind = r.laid bs e ep (λ more. copied_pass bs e ep there) in
+      subst (λ (c : Core). Lays t4 bs c base next) (sym (core_maybe (mode_of mode) first g e least may none some))
+      (maybe_lays t4 bs (mode_of mode) first g e rest base next p v ep eo (fork_stands bs) (begin_stands bs) (pass_stands bs e ep there) (end_stands bs)
+      (subst (λ (b : Bool). Lays t4 bs (pass_core 0 b (may - 1) (mode_of mode) first g e) (base + 1 + 1 + p + 1) next) is behind))
 
-  pub may-laid : v ≡ cond endless base (entry_of (may - 1) (base + 1 + 1 + p + 1) next) → PassesLaid model p first g least may endless mode base next t t4
-  may-laid ev =
+  pub may_laid : v ≡ cond endless base (entry_of (may - 1) (base + 1 + 1 + p + 1) next) → PassesLaid model p first g least may endless mode base next t t4
+  may_laid ev =
       record {
-        kept = may-kept;
-        laid = λ bs e ep given. may-lays bs e ep (given (λ z. some (omega arith))) endless refl ev;
+        kept = may_kept;
+        laid = λ bs e ep given. may_lays bs e ep (given (λ z. some (omega arith))) endless refl ev;
       }
 
 -- no passes are left
-pub none-laid : {model p first g least may mode base next : ℕ} {t : List ℕ} (endless : Bool) → least ≡ 0 → may ≡ 0
+pub none_laid : {model p first g least may mode base next : ℕ} {t : List ℕ} (endless : Bool) → least ≡ 0 → may ≡ 0
     → PassesLaid model p first g least may endless mode base next t t
-none-laid {p = p} {first = first} {g = g} {least = least} {may = may} {mode = mode} {base = base} {next = next} {t = t} endless none nones =
+none_laid {p = p} {first = first} {g = g} {least = least} {may = may} {mode = mode} {base = base} {next = next} {t = t} endless none nones =
     record {
-      kept = kept-none base (base + passPlaces least may p) t;
-      laid = λ bs e ep given. subst (λ (c : Core). Lays t bs c base next) (sym (core-none (mode_of mode) first g e least endless may none nones)) tt;
+      kept = kept_none base (base + pass_places least may p) t;
+      laid = λ bs e ep given. subst (λ (c : Core). Lays t bs c base next) (sym (core_none (mode_of mode) first g e least endless may none nones)) tt;
     }
 
 -- all passes are left
-pub left-all : {model p first g least may mode base next : ℕ} {endless : Bool} (t : List ℕ) → Repeating model p first g least may endless base next
+pub left_all : {model p first g least may mode base next : ℕ} {endless : Bool} (t : List ℕ) → Repeating model p first g least may endless base next
     → PassesLeft model p first g least may endless mode base next t least may base t
-left-all t m = record { asked = m; same_length = refl; all = λ after r. r }
+left_all t m = record { asked = m; same_length = refl; all = λ after r. r }
 
 -- a pass that must be made is laid
-pub left-must : {model p first g least may mode base next must left from v : ℕ} {endless : Bool} {t0 t t1 : List ℕ}
+pub left_must : {model p first g least may mode base next must left from v : ℕ} {endless : Bool} {t0 t t1 : List ℕ}
     → PassesLeft model p first g least may endless mode base next t0 must left from t → (must ≡ 0 → ⊥)
     → v ≡ entry_of (must - 1 + left) (from + 1 + p) next → BegunLaid model p 3 first g from v t t1
     → PassesLeft model p first g least may endless mode base next t0 (must - 1) left (from + 1 + p) t1
-left-must i some ev h =
+left_must i some ev h =
     record {
-      asked = must-rest i.asked some;
+      asked = must_rest i.asked some;
       same_length = h.kept.same_length ∙ i.same_length;
-      all = λ after r. i.all after (must-laid i.asked some ev h r);
+      all = λ after r. i.all after (must_laid i.asked some ev h r);
     }
 
 -- an optional pass is laid
-pub left-may : {model p first g least may mode base next left from v : ℕ} {endless : Bool} {t0 t t1 t2 t3 : List ℕ}
+pub left_may : {model p first g least may mode base next left from v : ℕ} {endless : Bool} {t0 t t1 t2 t3 : List ℕ}
     → PassesLeft model p first g least may endless mode base next t0 0 left from t → (left ≡ 0 → ⊥)
     → v ≡ cond endless from (entry_of (left - 1) (from + 1 + 1 + p + 1) next) → Forked t from mode (from + 1) next t1
     → BegunLaid model p 4 first g (from + 1) (from + 1 + 1 + p) t1 t2 → Put t2 (from + 1 + 1 + p) 5 v 0 0 t3
     → PassesLeft model p first g least may endless mode base next t0 0 (left - 1) (from + 1 + 1 + p + 1) t3
-left-may i some ev f h end =
+left_may i some ev f h end =
     record {
-      asked = may-rest i.asked refl some;
+      asked = may_rest i.asked refl some;
       same_length = end.kept.same_length ∙ h.kept.same_length ∙ f.kept.same_length ∙ i.same_length;
-      all = λ after r. i.all after (may-laid i.asked refl some f h end r ev);
+      all = λ after r. i.all after (may_laid i.asked refl some f h end r ev);
     }
 
 -- its fork fits
-pub left-fork : {model p first g least may mode base next left from : ℕ} {endless : Bool} {t0 t : List ℕ}
+pub left_fork : {model p first g least may mode base next left from : ℕ} {endless : Bool} {t0 t : List ℕ}
     → PassesLeft model p first g least may endless mode base next t0 0 left from t → (left ≡ 0 → ⊥) → 2040 ≤ length t0 → Fitting t from (from + 1) next 0
-left-fork {p = p} {left = left} i some room =
-    let total = places-may 0 left p refl some in
+left_fork {p = p} {left = left} i some room =
+    let total = places_may 0 left p refl some in
     record {
       room = omega (arith, i.asked.room, i.same_length);
       next_fits = omega (arith, i.asked.room);
-      a-fits = omega (arith, i.asked.follows);
-      n-fits = omega arith;
+      a_fits = omega (arith, i.asked.follows);
+      n_fits = omega arith;
     }
 
 -- none is left
-pub left-none : {model p first g least may mode base next left from : ℕ} {endless : Bool} {t0 t : List ℕ}
+pub left_none : {model p first g least may mode base next left from : ℕ} {endless : Bool} {t0 t : List ℕ}
     → PassesLeft model p first g least may endless mode base next t0 0 left from t → left ≡ 0
     → PassesLaid model p first g least may endless mode base next t0 t
-left-none {endless = endless} {t = t} i none = i.all t (none-laid endless refl none)
+left_none {endless = endless} {t = t} i none = i.all t (none_laid endless refl none)

@@ -15,17 +15,17 @@ pub elsewhere : (l : List ℕ) (i j a : ℕ) → (j ≡ i → ⊥) → get_or (s
 elsewhere l i j a other = get_or-set_other l i j a 0 other
 
 -- four stores leave what stands at none of the four
-pub elsewhere-4 : (t : List ℕ) (b k v a n j : ℕ) → (j ≡ b → ⊥) → (j ≡ b + 1 → ⊥) → (j ≡ b + 2 → ⊥) → (j ≡ b + 3 → ⊥)
+pub elsewhere_4 : (t : List ℕ) (b k v a n j : ℕ) → (j ≡ b → ⊥) → (j ≡ b + 1 → ⊥) → (j ≡ b + 2 → ⊥) → (j ≡ b + 3 → ⊥)
     → get_or (set (set (set (set t b k) (b + 1) v) (b + 2) a) (b + 3) n) j 0 ≡ get_or t j 0
-elsewhere-4 t b k v a n j f g h i =
+elsewhere_4 t b k v a n j f g h i =
     let t1 = set t b k in
     let t2 = set t1 (b + 1) v in
     elsewhere (set t2 (b + 2) a) (b + 3) j n i ∙ elsewhere t2 (b + 2) j a h ∙ elsewhere t1 (b + 1) j v g ∙ elsewhere t b j k f
 
 -- four stores make a place
-pub put-stored : (t : List ℕ) (x k v a n : ℕ) → 4 * x + 4 ≤ length t
+pub put_stored : (t : List ℕ) (x k v a n : ℕ) → 4 * x + 4 ≤ length t
     → Put t x k v a n (set (set (set (set t (4 * x) k) (4 * x + 1) v) (4 * x + 2) a) (4 * x + 3) n)
-put-stored t x k v a n room =
+put_stored t x k v a n room =
     let b = 4 * x in
     let t1 = set t b k in
     let t2 = set t1 (b + 1) v in
@@ -34,18 +34,18 @@ put-stored t x k v a n room =
     let long2 : length t2 ≡ length t = length-set t1 (b + 1) v ∙ long1 in
     let long3 : length t3 ≡ length t = length-set t2 (b + 2) a ∙ long2 in
     record {
-      kind-is =
+      kind_is =
           elsewhere t3 (b + 3) b n (λ e. omega arith) ∙ elsewhere t2 (b + 2) b a (λ e. omega arith)
           ∙ elsewhere t1 (b + 1) b v (λ e. omega arith) ∙ get_or-set_same t b k 0 (omega arith);
-      next-is =
+      next_is =
           elsewhere t3 (b + 3) (b + 1) n (λ e. omega arith) ∙ elsewhere t2 (b + 2) (b + 1) a (λ e. omega arith)
           ∙ get_or-set_same t1 (b + 1) v 0 (omega arith);
-      a-is = elsewhere t3 (b + 3) (b + 2) n (λ e. omega arith) ∙ get_or-set_same t2 (b + 2) a 0 (omega arith);
-      n-is = get_or-set_same t3 (b + 3) n 0 (omega arith);
+      a_is = elsewhere t3 (b + 3) (b + 2) n (λ e. omega arith) ∙ get_or-set_same t2 (b + 2) a 0 (omega arith);
+      n_is = get_or-set_same t3 (b + 3) n 0 (omega arith);
       kept = record {
         same_length = length-set t3 (b + 3) n ∙ long3;
-        below = λ i lt. elsewhere-4 t b k v a n i (λ e. omega arith) (λ e. omega arith) (λ e. omega arith) (λ e. omega arith);
-        behind = λ i le. elsewhere-4 t b k v a n i (λ e. omega arith) (λ e. omega arith) (λ e. omega arith) (λ e. omega arith);
+        below = λ i lt. elsewhere_4 t b k v a n i (λ e. omega arith) (λ e. omega arith) (λ e. omega arith) (λ e. omega arith);
+        behind = λ i le. elsewhere_4 t b k v a n i (λ e. omega arith) (λ e. omega arith) (λ e. omega arith) (λ e. omega arith);
       };
     }
 
@@ -60,17 +60,17 @@ pub put_holds : {t t' : List ℕ} {x k v a n : ℕ} (p : List ℕ) → Put t x k
     → (k ≡ 6 → (a + 2 * n ≤ length p) × (n ≤ 32)) → Holds t' p x (place_of p k v a n)
 put_holds p w known ranges =
     record {
-      decoded = agree p w.kind-is w.next-is w.a-is w.n-is;
+      decoded = agree p w.kind_is w.next_is w.a_is w.n_is;
       readable = record {
         known = omega arith;
-        pairs_end = λ e. omega (arith, ranges (sym w.kind-is ∙ e));
-        few-pairs = λ e. omega (arith, ranges (sym w.kind-is ∙ e));
+        pairs_end = λ e. omega (arith, ranges (sym w.kind_is ∙ e));
+        few_pairs = λ e. omega (arith, ranges (sym w.kind_is ∙ e));
       };
     }
 
 -- a place of a kind below the set's reads no bytes of the pattern
-pub plain-holds : {t t' : List ℕ} {x k v a n : ℕ} (p : List ℕ) → Put t x k v a n t' → k < 6 → Holds t' p x (place_of p k v a n)
-plain-holds p w low = put_holds p w (omega arith) (λ e. absurd (omega arith))
+pub plain_holds : {t t' : List ℕ} {x k v a n : ℕ} (p : List ℕ) → Put t x k v a n t' → k < 6 → Holds t' p x (place_of p k v a n)
+plain_holds p w low = put_holds p w (omega arith) (λ e. absurd (omega arith))
 
 -- the numbers of the places from `low` up to `high` are the same in two tables
 record Same (low high : ℕ) (t t' : List ℕ) : Type 0 where
@@ -88,34 +88,34 @@ holds_same {x = x} {t = t} {t' = t'} {p = p} s le lt h =
       readable = record {
         known = omega (arith, h.readable.known);
         pairs_end = λ e. omega (arith, h.readable.pairs_end (sym k0 ∙ e));
-        few-pairs = λ e. omega (arith, h.readable.few-pairs (sym k0 ∙ e));
+        few_pairs = λ e. omega (arith, h.readable.few_pairs (sym k0 ∙ e));
       };
     }
 
 -- so do all the places of a written-out pattern
-lays-same : (c : Core) (p : List ℕ) (base next : ℕ) {low high : ℕ} {t t' : List ℕ} → Same low high t t' → low ≤ base → base + size c ≤ high
+lays_same : (c : Core) (p : List ℕ) (base next : ℕ) {low high : ℕ} {t t' : List ℕ} → Same low high t t' → low ≤ base → base + size c ≤ high
     → Lays t p c base next → Lays t' p c base next
-lays-same dead p base next s lo hi h = holds_same s (omega arith) (omega arith) h
-lays-same skip p base next s lo hi h = tt
-lays-same (eats ranges) p base next s lo hi h = holds_same s (omega arith) (omega arith) h
-lays-same (captures g e) p base next s lo hi h =
-    (holds_same s (omega arith) (omega arith) h.0, lays-same e p _ _ s (omega arith) (omega arith) h.1, holds_same s (omega arith) (omega arith) h.2)
-lays-same (chain a b) p base next s lo hi h = (lays-same a p _ _ s (omega arith) (omega arith) h.0, lays-same b p _ _ s (omega arith) (omega arith) h.1)
-lays-same (either a b) p base next s lo hi h =
-    (holds_same s (omega arith) (omega arith) h.0, lays-same a p _ _ s (omega arith) (omega arith) h.1, lays-same b p _ _ s (omega arith) (omega arith) h.2)
-lays-same (must first n e then) p base next s lo hi h =
-    (holds_same s (omega arith) (omega arith) h.0, lays-same e p _ _ s (omega arith) (omega arith) h.1, lays-same then p _ _ s (omega arith) (omega arith) h.2)
-lays-same (maybe mode first n e then) p base next s lo hi h = (
+lays_same dead p base next s lo hi h = holds_same s (omega arith) (omega arith) h
+lays_same skip p base next s lo hi h = tt
+lays_same (eats ranges) p base next s lo hi h = holds_same s (omega arith) (omega arith) h
+lays_same (captures g e) p base next s lo hi h =
+    (holds_same s (omega arith) (omega arith) h.0, lays_same e p _ _ s (omega arith) (omega arith) h.1, holds_same s (omega arith) (omega arith) h.2)
+lays_same (chain a b) p base next s lo hi h = (lays_same a p _ _ s (omega arith) (omega arith) h.0, lays_same b p _ _ s (omega arith) (omega arith) h.1)
+lays_same (either a b) p base next s lo hi h =
+    (holds_same s (omega arith) (omega arith) h.0, lays_same a p _ _ s (omega arith) (omega arith) h.1, lays_same b p _ _ s (omega arith) (omega arith) h.2)
+lays_same (must first n e then) p base next s lo hi h =
+    (holds_same s (omega arith) (omega arith) h.0, lays_same e p _ _ s (omega arith) (omega arith) h.1, lays_same then p _ _ s (omega arith) (omega arith) h.2)
+lays_same (maybe mode first n e then) p base next s lo hi h = (
   holds_same s (omega arith) (omega arith) h.0,
   holds_same s (omega arith) (omega arith) h.1,
-  lays-same e p _ _ s (omega arith) (omega arith) h.2,
+  lays_same e p _ _ s (omega arith) (omega arith) h.2,
   holds_same s (omega arith) (omega arith) h.3,
-  lays-same then p _ _ s (omega arith) (omega arith) h.4,
+  lays_same then p _ _ s (omega arith) (omega arith) h.4,
 )
-lays-same (star mode first n e) p base next s lo hi h = (
+lays_same (star mode first n e) p base next s lo hi h = (
   holds_same s (omega arith) (omega arith) h.0,
   holds_same s (omega arith) (omega arith) h.1,
-  lays-same e p _ _ s (omega arith) (omega arith) h.2,
+  lays_same e p _ _ s (omega arith) (omega arith) h.2,
   holds_same s (omega arith) (omega arith) h.3,
 )
 
@@ -124,33 +124,33 @@ pub holds_kept : {low high x : ℕ} {t t' p : List ℕ} {q : Place} → Kept low
 holds_kept {low} {x = x} k lt h = holds_same {low = 0} {high = low} (record { numbers = λ i le less. k.below i less }) (omega arith) lt h
 
 -- so do all the places of a written-out pattern
-pub lays-kept : (c : Core) (p : List ℕ) (base next : ℕ) {low high : ℕ} {t t' : List ℕ} → Kept low high t t' → base + size c ≤ low → Lays t p c base next → Lays t' p c base next
-lays-kept c p base next {low} k le h = lays-same c p base next {low = 0} {high = low} (record { numbers = λ i more less. k.below i less }) (omega arith) le h
+pub lays_kept : (c : Core) (p : List ℕ) (base next : ℕ) {low high : ℕ} {t t' : List ℕ} → Kept low high t t' → base + size c ≤ low → Lays t p c base next → Lays t' p c base next
+lays_kept c p base next {low} k le h = lays_same c p base next {low = 0} {high = low} (record { numbers = λ i more less. k.below i less }) (omega arith) le h
 
 -- and those behind it
-pub lays-behind : (c : Core) (p : List ℕ) (base next : ℕ) {low high : ℕ} {t t' : List ℕ} → Kept low high t t' → high ≤ base → Lays t p c base next → Lays t' p c base next
-lays-behind c p base next k le h =
-    lays-same c p base next {low = base} {high = base + size c} (record { numbers = λ i more less. k.behind i (omega arith) }) (omega arith) (omega arith) h
+pub lays_behind : (c : Core) (p : List ℕ) (base next : ℕ) {low high : ℕ} {t t' : List ℕ} → Kept low high t t' → high ≤ base → Lays t p c base next → Lays t' p c base next
+lays_behind c p base next k le h =
+    lays_same c p base next {low = base} {high = base + size c} (record { numbers = λ i more less. k.behind i (omega arith) }) (omega arith) (omega arith) h
 
 -- what has no places is laid by any table
-pub lays-none : (c : Core) (t p : List ℕ) (base next : ℕ) → size c ≡ 0 → Lays t p c base next
-lays-none dead t p base next none = absurd (omega arith)
-lays-none skip t p base next none = tt
-lays-none (eats ranges) t p base next none = absurd (omega arith)
-lays-none (captures g e) t p base next none = absurd (omega arith)
-lays-none (chain a b) t p base next none = (lays-none a t p _ _ (omega arith), lays-none b t p _ _ (omega arith))
-lays-none (either a b) t p base next none = absurd (omega arith)
-lays-none (must first n e then) t p base next none = absurd (omega arith)
-lays-none (maybe mode first n e then) t p base next none = absurd (omega arith)
-lays-none (star mode first n e) t p base next none = absurd (omega arith)
+pub lays_none : (c : Core) (t p : List ℕ) (base next : ℕ) → size c ≡ 0 → Lays t p c base next
+lays_none dead t p base next none = absurd (omega arith)
+lays_none skip t p base next none = tt
+lays_none (eats ranges) t p base next none = absurd (omega arith)
+lays_none (captures g e) t p base next none = absurd (omega arith)
+lays_none (chain a b) t p base next none = (lays_none a t p _ _ (omega arith), lays_none b t p _ _ (omega arith))
+lays_none (either a b) t p base next none = absurd (omega arith)
+lays_none (must first n e then) t p base next none = absurd (omega arith)
+lays_none (maybe mode first n e then) t p base next none = absurd (omega arith)
+lays_none (star mode first n e) t p base next none = absurd (omega arith)
 
 -- nothing has changed
-pub kept-none : (low high : ℕ) (t : List ℕ) → Kept low high t t
-kept-none low high t = record { same_length = refl; below = λ i lt. refl; behind = λ i le. refl }
+pub kept_none : (low high : ℕ) (t : List ℕ) → Kept low high t t
+kept_none low high t = record { same_length = refl; below = λ i lt. refl; behind = λ i le. refl }
 
 -- two changes, each inside a part, are one change inside it
-pub kept-both : {a b c d : ℕ} {t t1 t2 : List ℕ} (low high : ℕ) → Kept a b t t1 → Kept c d t1 t2 → low ≤ a → b ≤ high → low ≤ c → d ≤ high → Kept low high t t2
-kept-both low high k l la bh lc dh =
+pub kept_both : {a b c d : ℕ} {t t1 t2 : List ℕ} (low high : ℕ) → Kept a b t t1 → Kept c d t1 t2 → low ≤ a → b ≤ high → low ≤ c → d ≤ high → Kept low high t t2
+kept_both low high k l la bh lc dh =
     record {
       same_length = l.same_length ∙ k.same_length;
       below = λ i lt. l.below i (omega arith) ∙ k.below i (omega arith);

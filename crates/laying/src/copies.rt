@@ -1,7 +1,7 @@
 // Copies of places: a pass of a repeat has the places of the first one, its followers moved.
 ghost use Rattle.std.specs.Prelude.{◌≡◌, ◌≤◌, ◌<◌, length};
-ghost use Rattle.laying.specs.Room.{mostPlaces, tableRoom, mostNumber};
-ghost use Rattle.laying.specs.Copies.{moved_to, movedOther, Moving, PutMoved, Copied};
+ghost use Rattle.laying.specs.Room.{most_places, table_room, most_number};
+ghost use Rattle.laying.specs.Copies.{moved_to, moved_other, Moving, PutMoved, Copied};
 
 use crate::put;
 use pattern::PlaceKind;
@@ -18,7 +18,7 @@ pub struct Shift {
 // Where a follower leads in the copy: one of the copied places to its copy, any other to what follows the copy.
 fn moved(shift: Shift, x: usize) -> usize
     requires { Moving shift.from shift.count shift.to shift.next }
-    ensures { (result ≡ moved_to shift.from shift.count shift.to shift.next x) × (result ≤ mostPlaces) }
+    ensures { (result ≡ moved_to shift.from shift.count shift.to shift.next x) × (result ≤ most_places) }
 {
     if x < shift.from {
         return shift.next;
@@ -34,8 +34,8 @@ fn moved(shift: Shift, x: usize) -> usize
 // The third number of a place in the copy: a fork's is its other follower.
 fn moved_other(shift: Shift, kind: u16, a: usize) -> usize
     requires moving { Moving shift.from shift.count shift.to shift.next }
-    requires a_le_most_number { a ≤ mostNumber }
-    ensures { (result ≡ movedOther shift.from shift.count shift.to shift.next kind a) × (result ≤ mostNumber) }
+    requires a_le_most_number { a ≤ most_number }
+    ensures { (result ≡ moved_other shift.from shift.count shift.to shift.next kind a) × (result ≤ most_number) }
 {
     if kind == PlaceKind::FORK {
         moved(shift, a)
@@ -46,7 +46,7 @@ fn moved_other(shift: Shift, kind: u16, a: usize) -> usize
 
 // A number of a place.
 fn number(x: u16) -> usize
-    ensures { (result ≡ x) × (result ≤ mostNumber) }
+    ensures { (result ≡ x) × (result ≤ most_number) }
 {
     x as usize
 }
@@ -55,7 +55,7 @@ fn number(x: u16) -> usize
 fn place_copied(table: &mut [u16], shift: Shift, k: usize)
     requires moving { Moving shift.from shift.count shift.to shift.next }
     requires k_lt_count { k < shift.count }
-    requires table_room_in_bounds { tableRoom ≤ length table.old }
+    requires table_room_in_bounds { table_room ≤ length table.old }
     ensures { PutMoved shift.from shift.count shift.to shift.next k table.old table.new }
 {
     let b = PlaceKind::NUMBERS * (shift.from + k);
@@ -69,7 +69,7 @@ fn place_copied(table: &mut [u16], shift: Shift, k: usize)
 // Copies places, their followers moved. The copy may stand where they do: then only what follows them changes.
 pub fn copied(table: &mut [u16], shift: Shift)
     requires moving { Moving shift.from shift.count shift.to shift.next }
-    requires table_room_in_bounds { tableRoom ≤ length table.old }
+    requires table_room_in_bounds { table_room ≤ length table.old }
     ensures { Copied shift.from shift.count shift.to shift.next shift.count table.old table.new }
 {
     let mut k = 0;

@@ -5,7 +5,7 @@ pub mod repeats;
 
 ghost use Rattle.std.specs.Prelude.{◌≡◌, ◌≤◌, length};
 ghost use Rattle.laying.specs.Laid.{entry_of};
-ghost use Rattle.laying.specs.Room.{tableRoom};
+ghost use Rattle.laying.specs.Room.{table_room};
 ghost use Rattle.laying.specs.Single.{Fitting, Put, Forked, Ranged, RangedLaid, Star, StarLaid};
 
 use pattern::{Pattern, PlaceKind};
@@ -40,7 +40,7 @@ pub fn set_place(
     next: usize,
 )
     requires ranged { Ranged pattern.now start stop base next }
-    requires table_room_in_bounds { tableRoom ≤ length table.old }
+    requires table_room_in_bounds { table_room ≤ length table.old }
     ensures { RangedLaid pattern.now start stop base next table.old table.new }
 {
     if stop - start == 2 {

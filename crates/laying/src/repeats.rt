@@ -1,8 +1,8 @@
 // The passes of a repeat: those that must be made, then the optional ones, each around a copy of the inner part.
 ghost use Rattle.std.specs.Prelude.{◌≡◌, cond, ◌-◌, ◌≤◌, ◌<◌, length};
 ghost use Rattle.laying.specs.Laid.{entry_of};
-ghost use Rattle.laying.specs.Room.{mostPlaces, tableRoom};
-ghost use Rattle.laying.specs.Repeats.{innerStart, Begun, BegunLaid, Repeating, PassesLaid, PassesLeft, Passed, PassedInside};
+ghost use Rattle.laying.specs.Room.{most_places, table_room};
+ghost use Rattle.laying.specs.Repeats.{inner_start, Begun, BegunLaid, Repeating, PassesLaid, PassesLeft, Passed, PassedInside};
 
 use crate::copies::{Shift, copied};
 use crate::{entered, pass_fork, put};
@@ -33,8 +33,8 @@ pub fn inner_places(all: usize, least: usize, may: usize) -> usize
 
 // Where the inner part of the first of some passes starts: behind its begin, which has a fork before it where the pass is optional.
 pub fn inner_start(must: usize, base: usize) -> usize
-    requires { base ≤ mostPlaces }
-    ensures { result ≡ innerStart must base }
+    requires { base ≤ most_places }
+    ensures { result ≡ inner_start must base }
 {
     if must == 0 { base + 2 } else { base + 1 }
 }
@@ -54,7 +54,7 @@ fn pass_end(endless: bool, may: usize, base: usize, after: usize, next: usize) -
 // A begin of a pass, and the inner part behind it.
 fn begun(table: &mut [u16], pass: Pass, kind: u16, base: usize, next: usize)
     requires begun { Begun pass.model pass.places kind pass.first pass.groups base next }
-    requires table_room_in_bounds { tableRoom ≤ length table.old }
+    requires table_room_in_bounds { table_room ≤ length table.old }
     ensures { BegunLaid pass.model pass.places kind pass.first pass.groups base next table.old table.new }
 {
     let places = pass.places;
@@ -92,7 +92,7 @@ fn must_passes(
     next: usize,
 ) -> usize
     requires repeating { Repeating pass.model pass.places pass.first pass.groups must may pass.endless base next }
-    requires table_room_in_bounds { tableRoom ≤ length table.old }
+    requires table_room_in_bounds { table_room ≤ length table.old }
     ensures { PassesLeft pass.model pass.places pass.first pass.groups must may pass.endless pass.mode base next table.old 0 may result table.new }
 {
     let mut left = must;
@@ -110,7 +110,7 @@ fn must_passes(
 // The optional passes, one after another; without an upper end there is one, whose end leads back.
 fn may_passes(table: &mut [u16], pass: Pass, may: usize, base: usize, next: usize)
     requires repeating { Repeating pass.model pass.places pass.first pass.groups 0 may pass.endless base next }
-    requires table_room_in_bounds { tableRoom ≤ length table.old }
+    requires table_room_in_bounds { table_room ≤ length table.old }
     ensures { PassesLaid pass.model pass.places pass.first pass.groups 0 may pass.endless pass.mode base next table.old table.new }
 {
     let mut left = may;
@@ -130,7 +130,7 @@ fn may_passes(table: &mut [u16], pass: Pass, may: usize, base: usize, next: usiz
 // The passes of a repeat: those that must be made, then the optional ones.
 pub fn passes(table: &mut [u16], pass: Pass, must: usize, may: usize, base: usize, next: usize)
     requires repeating { Repeating pass.model pass.places pass.first pass.groups must may pass.endless base next }
-    requires table_room_in_bounds { tableRoom ≤ length table.old }
+    requires table_room_in_bounds { table_room ≤ length table.old }
     ensures { PassesLaid pass.model pass.places pass.first pass.groups must may pass.endless pass.mode base next table.old table.new }
 {
     let from = must_passes(table, pass, must, may, base, next);

@@ -7,112 +7,112 @@ use mathlib.Core.List.{List}
 use lib.ListN.{length, get_or, drop, length-drop}
 use lib.Seq.{get_or-drop, ext_get_or}
 use Rattle.paper.specs.Refusal.{Checked, refused, accepted, ◌>>=◌}
-use Rattle.paper.specs.Pattern.{Pattern, allPlaces, depth, groups}
-use Rattle.paper.specs.Check.{patternOf, Numbers, numbersOf}
+use Rattle.paper.specs.Pattern.{Pattern, all_places, depth, groups}
+use Rattle.paper.specs.Check.{pattern_of, Numbers, numbers_of}
 use Rattle.paper.specs.Machine.{Place, places_of}
-use Rattle.paper.specs.Tables.{placeNumbers}
-use Rattle.paper.proofs.layout.Lawful.{accepted-lawful}
-use Rattle.paper.proofs.machine.Sizes.{places-wrap, depth-wrap}
+use Rattle.paper.specs.Tables.{place_numbers}
+use Rattle.paper.proofs.layout.Lawful.{accepted_lawful}
+use Rattle.paper.proofs.machine.Sizes.{places_wrap, depth_wrap}
 use Rattle.pattern.specs.declared.Answer.{Answer}
 use Rattle.pattern.specs.declared.Answer.TheVariants.{Accepted}
 use Rattle.pattern.specs.Answer.{answer_of, Checks}
-use Rattle.laying.specs.Room.{tableRoom}
+use Rattle.laying.specs.Room.{table_room}
 use Rattle.places.specs.Built as places
 use Rattle.machine.specs.declared.Built.{Built}
 use Rattle.machine.specs.declared.Built.TheVariants.{Refused, Machine}
-use Rattle.machine.specs.Machine.{wrapped, firstGroup, Ready, Builds}
-use Rattle.machine.proofs.Wiring.{few-places}
+use Rattle.machine.specs.Machine.{wrapped, first_group, Ready, Builds}
+use Rattle.machine.proofs.Wiring.{few_places}
 
 -- the tree of a pattern that checking took, with its places, its depth and its groups
 pub record Tree (pattern : List ℕ) (all deep many : ℕ) : Type 0 where
   pub tree : Pattern
-  pub found : patternOf pattern ≡ accepted tree
-  pub all_are : all ≡ allPlaces tree
+  pub found : pattern_of pattern ≡ accepted tree
+  pub all_are : all ≡ all_places tree
   pub deep_is : deep ≡ depth tree
-  pub many-are : many ≡ groups tree
+  pub many_are : many ≡ groups tree
 
 -- checking takes a pattern exactly where it has a tree
 pub tree_of : {pattern : List ℕ} {r : Answer} {n d g : ℕ} → Checks pattern r → r ≡ Accepted n d g → Tree pattern n d g
-tree_of {pattern} {r} {n} {d} {g} checked is = look (patternOf pattern) refl (sym (ap answer_of is) ∙ checked.answer)
+tree_of {pattern} {r} {n} {d} {g} checked is = look (pattern_of pattern) refl (sym (ap answer_of is) ∙ checked.answer)
   where
-    look : (found : Checked Pattern) → patternOf pattern ≡ found
-        → accepted (record { places = n; depth = d; groups = g }) ≡ (found >>= λ e. accepted (numbersOf e)) → Tree pattern n d g
+    look : (found : Checked Pattern) → pattern_of pattern ≡ found
+        → accepted (record { places = n; depth = d; groups = g }) ≡ (found >>= λ e. accepted (numbers_of e)) → Tree pattern n d g
     look (refused number place) is e = let z : ◌≡◌ {A = ℕ} 0 1 = cc in absurd (omega arith)
     look (accepted tree) is e =
-        let same : ◌≡◌ {A = Numbers} (record { places = n; depth = d; groups = g }) (numbersOf tree) = cc in
-        record { tree = tree; found = is; all_are = ap (λ (m : Numbers). m.places) same; deep_is = ap (λ (m : Numbers). m.depth) same; many-are = ap (λ (m : Numbers). m.groups) same }
+        let same : ◌≡◌ {A = Numbers} (record { places = n; depth = d; groups = g }) (numbers_of tree) = cc in
+        record { tree = tree; found = is; all_are = ap (λ (m : Numbers). m.places) same; deep_is = ap (λ (m : Numbers). m.depth) same; many_are = ap (λ (m : Numbers). m.groups) same }
 
 -- so it can be built
-pub accepted-of : {pattern : List ℕ} {n d g : ℕ} → Tree pattern n d g → places.Accepted pattern (n - 1) g
-accepted-of t = record { tree = t.tree; found = t.found; places-are = omega (arith, t.all_are); groups-are = t.many-are }
+pub accepted_of : {pattern : List ℕ} {n d g : ℕ} → Tree pattern n d g → places.Accepted pattern (n - 1) g
+accepted_of t = record { tree = t.tree; found = t.found; places_are = omega (arith, t.all_are); groups_are = t.many_are }
 
 -- and refuses it otherwise
-pub fault-of : {pattern : List ℕ} {r : Answer} {number place : ℕ} → Checks pattern r → r ≡ Answer.Refused number place → patternOf pattern ≡ refused number place
-fault-of {pattern} {r} {number} {place} checked is = look (patternOf pattern) refl (sym (ap answer_of is) ∙ checked.answer)
+pub fault_of : {pattern : List ℕ} {r : Answer} {number place : ℕ} → Checks pattern r → r ≡ Answer.Refused number place → pattern_of pattern ≡ refused number place
+fault_of {pattern} {r} {number} {place} checked is = look (pattern_of pattern) refl (sym (ap answer_of is) ∙ checked.answer)
   where
-    look : (found : Checked Pattern) → patternOf pattern ≡ found → refused number place ≡ (found >>= λ e. accepted (numbersOf e))
-        → patternOf pattern ≡ refused number place
+    look : (found : Checked Pattern) → pattern_of pattern ≡ found → refused number place ≡ (found >>= λ e. accepted (numbers_of e))
+        → pattern_of pattern ≡ refused number place
     look (refused number' place') is e = let same : ◌≡◌ {A = Checked Pattern} (refused number' place') (refused number place) = cc in is ∙ same
     look (accepted tree) is e = cc
 
 -- what stands behind the places of a table that was built into is as it was
 behind_places : {list : List Place} {count : ℕ} {pattern before after : List ℕ} → places.Built list count pattern before after
-    → drop (placeNumbers * count) after ≡ drop (placeNumbers * count) before
+    → drop (place_numbers * count) after ≡ drop (place_numbers * count) before
 behind_places {count = count} {before = before} {after} built =
-    let n = placeNumbers * count in
+    let n = place_numbers * count in
     ext_get_or 0 (drop n after) (drop n before) (length-drop n after ∙ ap (λ (k : ℕ). k - n) built.same_length ∙ sym (length-drop n before))
     (λ i h. get_or-drop n after i 0 ∙ built.untouched (n + i) (omega arith) ∙ sym (get_or-drop n before i 0))
 
-module _ (pattern before after : List ℕ) (bytes : (i : ℕ) → get_or pattern i 0 < 256) (room : tableRoom ≤ length before) where
+module _ (pattern before after : List ℕ) (bytes : (i : ℕ) → get_or pattern i 0 < 256) (room : table_room ≤ length before) where
   -- a table that holds the places of the pattern to be built
-  ready : (searches : Bool) (e : Pattern) (count deep : ℕ) → patternOf pattern ≡ accepted e → count ≡ allPlaces (wrapped searches e)
-      → deep ≡ depth (wrapped searches e) → places.Built (places_of (wrapped searches e) (firstGroup searches)) count pattern before after
+  ready : (searches : Bool) (e : Pattern) (count deep : ℕ) → pattern_of pattern ≡ accepted e → count ≡ all_places (wrapped searches e)
+      → deep ≡ depth (wrapped searches e) → places.Built (places_of (wrapped searches e) (first_group searches)) count pattern before after
       → Ready pattern after searches count deep
   ready searches e count deep found same low built =
-      let lawful = (accepted-lawful pattern bytes e found).0 in
+      let lawful = (accepted_lawful pattern bytes e found).0 in
       record {
         tree = e;
         found = found;
         lawful = lawful;
-        places-are = same;
+        places_are = same;
         deep_is = low;
-        long = omega (arith, built.same_length, few-places searches e lawful, same);
+        long = omega (arith, built.same_length, few_places searches e lawful, same);
         decoded = built.decoded;
         readable = built.readable;
       }
 
   -- for a whole match
-  pub builds-match : {count n d g : ℕ} (searches : Bool) → searches ≡ false → Tree pattern n d g → places.BuiltMatch pattern before after count
+  pub builds_match : {count n d g : ℕ} (searches : Bool) → searches ≡ false → Tree pattern n d g → places.BuiltMatch pattern before after count
       → Builds pattern searches before after (Machine count d g)
   unfolding ready
-  builds-match {count} {n} {d} {g} searches is t built =
+  builds_match {count} {n} {d} {g} searches is t built =
       let e = t.tree in
-      let same = built.count-is e t.found in
+      let same = built.count_is e t.found in
       let laid = subst (λ (n : ℕ). places.Built (places_of e 1) n pattern before after) (sym same) (built.built e t.found) in
       subst (λ (b : Bool). Builds pattern b before after (Machine count d g)) (sym is) (
         ready false e count d t.found same t.deep_is laid,
-        t.many-are,
+        t.many_are,
         behind_places laid,
       )
 
   -- for a search
-  pub builds-search : {count n d g deep : ℕ} (searches : Bool) → searches ≡ true → deep ≡ max 1 d → Tree pattern n d g
+  pub builds_search : {count n d g deep : ℕ} (searches : Bool) → searches ≡ true → deep ≡ max 1 d → Tree pattern n d g
       → places.BuiltSearch pattern before after count → Builds pattern searches before after (Machine count deep g)
   unfolding ready
-  builds-search {count} {n} {d} {g} {deep = deep} searches is low t built =
+  builds_search {count} {n} {d} {g} {deep = deep} searches is low t built =
       let e = t.tree in
-      let same = built.count-is e t.found in
+      let same = built.count_is e t.found in
       let laid = subst (λ (n : ℕ). places.Built (places_of (wrapped true e) 0) n pattern before after) (sym same) (built.built e t.found) in
       subst (λ (b : Bool). Builds pattern b before after (Machine count deep g)) (sym is) (
-        ready true e count deep t.found (same ∙ sym (places-wrap e)) (low ∙ ap (max 1) t.deep_is ∙ sym (depth-wrap e)) laid,
-        t.many-are,
+        ready true e count deep t.found (same ∙ sym (places_wrap e)) (low ∙ ap (max 1) t.deep_is ∙ sym (depth_wrap e)) laid,
+        t.many_are,
         behind_places laid,
       )
 
 -- what building promises, where its answer is known
 module _ (pattern : List ℕ) (searches : Bool) (before after : List ℕ) {r : Built} (builds : Builds pattern searches before after r) where
-  pub machine-of : {places deep many : ℕ} → r ≡ Machine places deep many → Ready pattern after searches places deep
-  machine-of is = (subst (Builds pattern searches before after) is builds).0
+  pub machine_of : {places deep many : ℕ} → r ≡ Machine places deep many → Ready pattern after searches places deep
+  machine_of is = (subst (Builds pattern searches before after) is builds).0
 
-  pub refusal-of : {number place : ℕ} → r ≡ Refused number place → patternOf pattern ≡ refused number place
-  refusal-of is = (subst (Builds pattern searches before after) is builds).0
+  pub refusal_of : {number place : ℕ} → r ≡ Refused number place → pattern_of pattern ≡ refused number place
+  refusal_of is = (subst (Builds pattern searches before after) is builds).0

@@ -1,8 +1,8 @@
 // A pattern's machine (01, "The list machine"): built once for a whole match or for a search, and run on many lines.
 ghost use Rattle.std.specs.Prelude.{◌≡◌, Bool, true, false, ◌≤◌, max, length};
-ghost use Rattle.paper.specs.Limits.{lineBytes};
-ghost use Rattle.laying.specs.Room.{tableRoom};
-ghost use Rattle.machine.specs.Machine.{Builds, Ready, Runnable, RunsFrom, OrNone, MatchGives, SearchGives, FoundGives, fitsSmall};
+ghost use Rattle.paper.specs.Limits.{line_bytes};
+ghost use Rattle.laying.specs.Room.{table_room};
+ghost use Rattle.machine.specs.Machine.{Builds, Ready, Runnable, RunsFrom, OrNone, MatchGives, SearchGives, FoundGives, fits_small};
 
 use pattern::{Pattern, PlaceKind, Spans};
 use run::Ran;
@@ -65,7 +65,7 @@ fn search_depth(depth: usize) -> usize
 
 // Checks a pattern, and builds its machine for a whole match or for a search into a lent table.
 pub fn build(pattern: &[u8], searches: bool, code: &mut [u16]) -> Built
-    requires { tableRoom ≤ length code.old }
+    requires { table_room ≤ length code.old }
     ensures { Builds pattern.now searches code.old code.new result }
 {
     match pattern::check(pattern) {
@@ -227,7 +227,7 @@ fn find_large(
     depth: usize,
     line: &[u8],
 ) -> Ran
-    requires { Ready pattern.now code.now searches places depth × (length line.now ≤ lineBytes) }
+    requires { Ready pattern.now code.now searches places depth × (length line.now ≤ line_bytes) }
     ensures { FoundGives searches pattern.now line.now result.matched result.steps result.rows }
 {
     let mut seen = [0u16; Machine::PAIRS];
@@ -257,7 +257,7 @@ fn find_small(
     depth: usize,
     line: &[u8],
 ) -> Ran
-    requires { Ready pattern.now code.now searches places depth × (length line.now ≤ lineBytes) × (fitsSmall places depth ≡ true) }
+    requires { Ready pattern.now code.now searches places depth × (length line.now ≤ line_bytes) × (fits_small places depth ≡ true) }
     ensures { FoundGives searches pattern.now line.now result.matched result.steps result.rows }
 {
     let mut seen = [0u16; Small::PAIRS];
@@ -280,7 +280,7 @@ fn find_small(
 
 // Whether small scratch is enough for a machine.
 pub fn is_small(places: usize, depth: usize) -> bool
-    ensures { result ≡ fitsSmall places depth }
+    ensures { result ≡ fits_small places depth }
 {
     if places <= Small::PLACES {
         return depth < Small::LEVELS;
@@ -297,7 +297,7 @@ pub fn find(
     depth: usize,
     line: &[u8],
 ) -> Ran
-    requires { Ready pattern.now code.now searches places depth × (length line.now ≤ lineBytes) }
+    requires { Ready pattern.now code.now searches places depth × (length line.now ≤ line_bytes) }
     ensures { FoundGives searches pattern.now line.now result.matched result.steps result.rows }
 {
     if is_small(places, depth) {

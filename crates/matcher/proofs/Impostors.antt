@@ -6,8 +6,8 @@ use mathlib.Core.Bool.{Bool, true, false, true≢false}
 use mathlib.Core.List.{List, [], ◌∷◌}
 use lib.ListN.{length, get_or}
 use Rattle.paper.specs.Refusal.{Checked, refused, accepted, ◌>>=◌}
-use Rattle.paper.specs.Bounds.{matchBound}
-use Rattle.paper.specs.Check.{patternOf}
+use Rattle.paper.specs.Bounds.{match_bound}
+use Rattle.paper.specs.Check.{pattern_of}
 use Rattle.paper.specs.Match.{Told}
 use Rattle.paper.proofs.known.Known.{lent}
 use Rattle.matcher.specs.declared.Answer.{Answer}
@@ -18,56 +18,56 @@ use Rattle.matcher.specs.Promise.{Matches, Searches}
 abbrev a : List ℕ
 a = 2 ∷ 0 ∷ 2 ∷ 0 ∷ 97 ∷ 97 ∷ []
 
-abbrev lineA : List ℕ
-lineA = 97 ∷ []
+abbrev line_a : List ℕ
+line_a = 97 ∷ []
 
 -- case 5: the pattern a* and the empty line
-abbrev manyA : List ℕ
-manyA = 12 ∷ 0 ∷ 6 ∷ 0 ∷ 0 ∷ 0 ∷ 255 ∷ 255 ∷ 0 ∷ 0 ∷ 2 ∷ 0 ∷ 2 ∷ 0 ∷ 97 ∷ 97 ∷ []
+abbrev many_a : List ℕ
+many_a = 12 ∷ 0 ∷ 6 ∷ 0 ∷ 0 ∷ 0 ∷ 255 ∷ 255 ∷ 0 ∷ 0 ∷ 2 ∷ 0 ∷ 2 ∷ 0 ∷ 97 ∷ 97 ∷ []
 
 -- whether an answer tells of a match, and its steps
-abbrev tellsMatch : Checked Told → Bool
-tellsMatch (refused number place) = false
-tellsMatch (accepted t) = t.matched
+abbrev tells_match : Checked Told → Bool
+tells_match (refused number place) = false
+tells_match (accepted t) = t.matched
 
-abbrev tellsSteps : Checked Told → ℕ
-tellsSteps (refused number place) = 0
-tellsSteps (accepted t) = t.steps
+abbrev tells_steps : Checked Told → ℕ
+tells_steps (refused number place) = 0
+tells_steps (accepted t) = t.steps
 
 -- One that refuses everything
 
-pub refuses-all : (number place : ℕ) (after : List ℕ) → Matches a lineA lent (Refused number place) after → ⊥
-refuses-all number place after p = true≢false (sym (ap tellsMatch p.answer))
+pub refuses_all : (number place : ℕ) (after : List ℕ) → Matches a line_a lent (Refused number place) after → ⊥
+refuses_all number place after p = true≢false (sym (ap tells_match p.answer))
 
-pub refuses-all-searches : (number place : ℕ) (after : List ℕ) → Searches a lineA lent (Refused number place) after → ⊥
-refuses-all-searches number place after p = true≢false (sym (ap tellsMatch p.answer))
+pub refuses_all_searches : (number place : ℕ) (after : List ℕ) → Searches a line_a lent (Refused number place) after → ⊥
+refuses_all_searches number place after p = true≢false (sym (ap tells_match p.answer))
 
 -- One that says "no match" to all
 
-pub none-to-all : (steps : ℕ) (after : List ℕ) → Matches a lineA lent (NoMatch steps) after → ⊥
-none-to-all steps after p = true≢false (sym (ap tellsMatch p.answer))
+pub none_to_all : (steps : ℕ) (after : List ℕ) → Matches a line_a lent (NoMatch steps) after → ⊥
+none_to_all steps after p = true≢false (sym (ap tells_match p.answer))
 
-pub none-to-all-searches : (steps : ℕ) (after : List ℕ) → Searches a lineA lent (NoMatch steps) after → ⊥
-none-to-all-searches steps after p = true≢false (sym (ap tellsMatch p.answer))
+pub none_to_all_searches : (steps : ℕ) (after : List ℕ) → Searches a line_a lent (NoMatch steps) after → ⊥
+none_to_all_searches steps after p = true≢false (sym (ap tells_match p.answer))
 
 -- One that leaves the table untouched: its first number was 1, and row 0 starts at 0
 
 one_not_zero : ◌≡◌ {A = ℕ} 1 0 → ⊥
 one_not_zero e = omega arith
 
-pub table-untouched : (r : Answer) → Matches a lineA lent r lent → ⊥
-table-untouched r p = one_not_zero (ap (λ (l : List ℕ). get_or l 0 0) p.table)
+pub table_untouched : (r : Answer) → Matches a line_a lent r lent → ⊥
+table_untouched r p = one_not_zero (ap (λ (l : List ℕ). get_or l 0 0) p.table)
 
-pub table-untouched-searches : (r : Answer) → Searches a lineA lent r lent → ⊥
-table-untouched-searches r p = one_not_zero (ap (λ (l : List ℕ). get_or l 0 0) p.table)
+pub table_untouched_searches : (r : Answer) → Searches a line_a lent r lent → ⊥
+table_untouched_searches r p = one_not_zero (ap (λ (l : List ℕ). get_or l 0 0) p.table)
 
 -- One that reports the bound as its count: on case 5 the bound is 10, and there are 4 steps
 
-pub bound-is-ten : (patternOf manyA >>= λ e. accepted (matchBound e (length {A = ℕ} []))) ≡ accepted 10
-bound-is-ten = refl
+pub bound_is_ten : (pattern_of many_a >>= λ e. accepted (match_bound e (length {A = ℕ} []))) ≡ accepted 10
+bound_is_ten = refl
 
-ten-not-four : ◌≡◌ {A = ℕ} 10 4 → ⊥
-ten-not-four e = omega arith
+ten_not_four : ◌≡◌ {A = ℕ} 10 4 → ⊥
+ten_not_four e = omega arith
 
-pub bound-as-count : (after : List ℕ) → Matches manyA [] lent (Match 10) after → ⊥
-bound-as-count after p = ten-not-four (ap tellsSteps p.answer)
+pub bound_as_count : (after : List ℕ) → Matches many_a [] lent (Match 10) after → ⊥
+bound_as_count after p = ten_not_four (ap tells_steps p.answer)

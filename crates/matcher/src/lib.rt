@@ -1,6 +1,6 @@
 // The public calls whole match and search (01, "The ordered reading"): their refusals, the machine's answer, and its rows in the lent table.
 ghost use Rattle.std.specs.Prelude.{◌≡◌, ◌++◌, ◌≤◌, length, drop};
-ghost use Rattle.paper.specs.Limits.{tableNumbers};
+ghost use Rattle.paper.specs.Limits.{table_numbers};
 ghost use Rattle.machine.specs.Machine.{Ready};
 ghost use Rattle.matcher.specs.Answer.{TellsSteps};
 ghost use Rattle.matcher.specs.Promise.{Matches, Searches, Answers};
@@ -18,8 +18,8 @@ pub enum Answer {
 
 // Writes rows to the front of a table.
 pub fn fill(table: &mut [u16], rows: [u16; Spans::NUMBERS])
-    requires { tableNumbers ≤ length table.old }
-    ensures { table.new ≡ rows ++ drop tableNumbers table.old }
+    requires { table_numbers ≤ length table.old }
+    ensures { table.new ≡ rows ++ drop table_numbers table.old }
 {
     let mut j = 0;
     while j < Spans::NUMBERS {

@@ -3,10 +3,10 @@ use Rattle.std.specs.Prelude.{ℕ, ◌+◌, ◌*◌, ◌≤◌, min, ◌≡◌, 
 use mir.Val.{bool_byte}
 use Rattle.paper.specs.Refusal.{refused}
 use Rattle.paper.specs.Pattern.{groups}
-use Rattle.paper.specs.Check.{patternOf}
-use Rattle.paper.specs.Tables.{placeNumbers}
-use Rattle.laying.specs.Room.{mostPlaces, tableRoom}
-use Rattle.machine.specs.Machine.{Ready, pendingNumbers}
+use Rattle.paper.specs.Check.{pattern_of}
+use Rattle.paper.specs.Tables.{place_numbers}
+use Rattle.laying.specs.Room.{most_places, table_room}
+use Rattle.machine.specs.Machine.{Ready, pending_numbers}
 use Rattle.matcher.specs.Promise.{Answers}
 use Rattle.matcher.specs.declared.Answer as matching
 use Rattle.matcher.specs.declared.Answer.TheVariants as matched
@@ -14,32 +14,32 @@ use Rattle.machine.specs.declared.Built.{Built}
 use Rattle.machine.specs.declared.Built.TheVariants.{Refused, Machine}
 
 -- the numbers before a machine's table: its places, its depth, and 1 where it searches
-abbrev pub headNumbers : ℕ
-headNumbers = 3
+abbrev pub head_numbers : ℕ
+head_numbers = 3
 
-abbrev pub placesIn : List ℕ → ℕ
-placesIn machine = get_or machine 0 0
+abbrev pub places_in : List ℕ → ℕ
+places_in machine = get_or machine 0 0
 
-abbrev pub depthIn : List ℕ → ℕ
-depthIn machine = get_or machine 1 0
+abbrev pub depth_in : List ℕ → ℕ
+depth_in machine = get_or machine 1 0
 
-abbrev pub searchesIn : List ℕ → Bool
-searchesIn machine = eqb (get_or machine 2 0) 1
+abbrev pub searches_in : List ℕ → Bool
+searches_in machine = eqb (get_or machine 2 0) 1
 
 -- the length of a machine's memory, and of each of the four memories that it is run in
-abbrev pub machineNumbers : ℕ
-machineNumbers = headNumbers + tableRoom
+abbrev pub machine_numbers : ℕ
+machine_numbers = head_numbers + table_room
 
-abbrev pub scratchNumbers : ℕ
-scratchNumbers = pendingNumbers mostPlaces
+abbrev pub scratch_numbers : ℕ
+scratch_numbers = pending_numbers most_places
 
 -- the memory holds the machine of an accepted pattern
 abbrev pub MachineOf : List ℕ → List ℕ → Type 0
-MachineOf pattern machine = Ready pattern (drop headNumbers machine) (searchesIn machine) (placesIn machine) (depthIn machine)
+MachineOf pattern machine = Ready pattern (drop head_numbers machine) (searches_in machine) (places_in machine) (depth_in machine)
 
 -- the one thing that a run asks: a memory that is long enough holds the pattern's machine
 abbrev pub Runs : List ℕ → List ℕ → Type 0
-Runs pattern machine = machineNumbers ≤ length machine → MachineOf pattern machine
+Runs pattern machine = machine_numbers ≤ length machine → MachineOf pattern machine
 
 -- the four memories that a machine is run in
 pub record Memories : Type 0 where
@@ -56,22 +56,22 @@ abbrev pub shortest : Memories → ℕ
 shortest lent = min (min (length lent.seen) (length lent.taken)) (min (length lent.lists) (length lent.pending))
 
 -- where a machine of so many places ends
-abbrev pub machineEnd : ℕ → ℕ
-machineEnd places = headNumbers + placeNumbers * places
+abbrev pub machine_end : ℕ → ℕ
+machine_end places = head_numbers + place_numbers * places
 
 -- a machine in its memory, with the three numbers that are told: its head, its table, and behind them what stood there before
 pub record Holds (pattern : List ℕ) (searches : Bool) (before after : List ℕ) (places deep many : ℕ) : Type 0 where
-  pub head : take headNumbers after ≡ places ∷ deep ∷ bool_byte searches ∷ []
-  pub ready : Ready pattern (drop headNumbers after) searches places deep
-  pub many-are : many ≡ groups ready.tree
-  pub behind : drop (machineEnd places) after ≡ drop (machineEnd places) before
+  pub head : take head_numbers after ≡ places ∷ deep ∷ bool_byte searches ∷ []
+  pub ready : Ready pattern (drop head_numbers after) searches places deep
+  pub many_are : many ≡ groups ready.tree
+  pub behind : drop (machine_end places) after ≡ drop (machine_end places) before
 
 -- what building promises: the refusals of checking, which leave the memory as it was, or the machine in it
 abbrev pub BuildsIn : List ℕ → Bool → List ℕ → List ℕ → Built → Type 0
-BuildsIn pattern searches before after (Refused number place) = (patternOf pattern ≡ refused number place) × (after ≡ before)
+BuildsIn pattern searches before after (Refused number place) = (pattern_of pattern ≡ refused number place) × (after ≡ before)
 BuildsIn pattern searches before after (Machine places deep many) = Holds pattern searches before after places deep many
 
 -- what a run promises: that of a whole match or of a search, and the four memories as they were where it is refused
 pub record RunsIn (pattern machine line : List ℕ) (lent lent' : Memories) (table table' : List ℕ) (r : matching.Answer) : Type 0 where
-  pub answers : Answers (searchesIn machine) pattern line table r table'
+  pub answers : Answers (searches_in machine) pattern line table r table'
   pub kept : (number place : ℕ) → r ≡ matched.Refused number place → lent' ≡ lent

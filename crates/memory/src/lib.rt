@@ -1,6 +1,6 @@
 // A machine in lent memory, built once and run on many lines: its head and its table in one memory, and its scratch in four (01, "The list machine").
 ghost use Rattle.std.specs.Prelude.{◌≡◌, ◌≤◌, min, length};
-ghost use Rattle.memory.specs.Memory.{machineNumbers, scratchNumbers, memories, shortest, MachineOf, BuildsIn, RunsIn};
+ghost use Rattle.memory.specs.Memory.{machine_numbers, scratch_numbers, memories, shortest, MachineOf, BuildsIn, RunsIn};
 
 use machine::Built;
 use matcher::Answer;
@@ -17,7 +17,7 @@ impl Memory {
 
 // Builds a machine behind its head, and then the head.
 pub fn build_in(pattern: &[u8], searches: bool, machine: &mut [u16]) -> Built
-    requires { machineNumbers ≤ length machine.old }
+    requires { machine_numbers ≤ length machine.old }
     ensures { BuildsIn pattern.now searches machine.old machine.new result }
 {
     match machine::build(pattern, searches, &mut machine[Memory::HEAD..]) {
@@ -50,7 +50,7 @@ pub fn run_in(
     pending: &mut [u16],
     table: &mut [u16],
 ) -> Answer
-    requires { (machineNumbers ≤ length machine.now) × MachineOf pattern.now machine.now × (scratchNumbers ≤ shortest (memories seen.old taken.old lists.old pending.old)) }
+    requires { (machine_numbers ≤ length machine.now) × MachineOf pattern.now machine.now × (scratch_numbers ≤ shortest (memories seen.old taken.old lists.old pending.old)) }
     ensures { RunsIn pattern.now machine.now line.now (memories seen.old taken.old lists.old pending.old) (memories seen.new taken.new lists.new pending.new) table.old table.new result }
 {
     if Line::BYTES < line.len() {

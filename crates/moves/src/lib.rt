@@ -1,8 +1,8 @@
 // The move at a place (01, "The list machine", paragraph 2): where it leads at once, or what it carries to the next position, or that it wins.
 ghost use Rattle.std.specs.Prelude.{◌≡◌, ◌&&◌, ◌+◌, ◌*◌, ◌≤◌, ◌<◌, ◌^◌, leb, length};
 ghost use Rattle.paper.specs.Reading.{in_set};
-ghost use Rattle.paper.specs.Check.{rangesOf, part};
-ghost use Rattle.paper.specs.Tables.{placeNumbers, forkPlace, setPlace, placeKindAt, placeNextAt, placeFirstAt, placeManyAt};
+ghost use Rattle.paper.specs.Check.{ranges_of, part};
+ghost use Rattle.paper.specs.Tables.{place_numbers, fork_place, set_place, place_kind_at, place_next_at, place_first_at, place_many_at};
 ghost use Rattle.moves.specs.Moves.{Slots, Eats, Leads, Settling, Settles};
 
 use pattern::{PlaceKind, Spans};
@@ -56,8 +56,8 @@ pub struct Settled {
 
 // The numbers of a place.
 pub fn numbers_of(code: &[u16], place: usize) -> Numbers
-    requires { placeNumbers * place + 3 < length code.now }
-    ensures { (result.kind ≡ placeKindAt code.now place) × (result.next ≡ placeNextAt code.now place) × (result.a ≡ placeFirstAt code.now place) × (result.n ≡ placeManyAt code.now place) }
+    requires { place_numbers * place + 3 < length code.now }
+    ensures { (result.kind ≡ place_kind_at code.now place) × (result.next ≡ place_next_at code.now place) × (result.a ≡ place_first_at code.now place) × (result.n ≡ place_many_at code.now place) }
 {
     let b = PlaceKind::NUMBERS * place;
     Numbers {
@@ -71,7 +71,7 @@ pub fn numbers_of(code: &[u16], place: usize) -> Numbers
 // Whether ranges of the pattern, left to right, hold a byte.
 fn in_set(pattern: &[u8], offset: usize, count: usize, byte: u8) -> bool
     requires { offset + 2 * count ≤ length pattern.now }
-    ensures { result ≡ in_set (rangesOf (part pattern.now offset (offset + 2 * count))) byte }
+    ensures { result ≡ in_set (ranges_of (part pattern.now offset (offset + 2 * count))) byte }
 {
     let mut p = offset;
     let mut many = count;
@@ -97,7 +97,7 @@ fn in_range(low: usize, high: usize, byte: u8) -> bool
 
 // Whether a place takes the byte ahead: it has a range, or a set of the pattern.
 fn eats(pattern: &[u8], ahead: Ahead, kind: usize, a: usize, n: usize) -> bool
-    requires { kind ≡ setPlace → a + 2 * n ≤ length pattern.now }
+    requires { kind ≡ set_place → a + 2 * n ≤ length pattern.now }
     ensures { Eats pattern.now ahead.there ahead.byte kind a n result }
 {
     if ahead.there {
@@ -121,7 +121,7 @@ pub fn lead(
     places: usize,
     rows: &mut [u16; Spans::NUMBERS],
 ) -> Onward
-    requires { (forkPlace < kind) × (kind < setPlace) × (floor + places < 2 ^ 64) × (0 < places) × Slots kind a n }
+    requires { (fork_place < kind) × (kind < set_place) × (floor + places < 2 ^ 64) × (0 < places) × Slots kind a n }
     ensures { Leads kind a n at places floor rows.old result.goes result.floor rows.new }
 {
     if kind == OPEN {

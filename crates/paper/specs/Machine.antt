@@ -1,10 +1,10 @@
 -- The list machine: the places of a pattern, the threads at a position, and the steps that are counted.
 use Rattle.std.specs.Prelude.{ℕ, zero, suc, ◌+◌, ◌-◌, ◌*◌, Bool, true, false, cond, ◌&&◌, ◌||◌, List, [], ◌∷◌, ◌++◌, eqb, length, get_or}
 use Rattle.std.proofs.Math.Option.{Option, none, some}
-use Rattle.paper.specs.Pattern.{Mode, greedy, lazy, Upper, up_to, noEnd, Range, Pattern, Members, allPlaces, depth, groups}
+use Rattle.paper.specs.Pattern.{Mode, greedy, lazy, Upper, up_to, no_end, Range, Pattern, Members, all_places, depth, groups}
 use Rattle.paper.specs.Pattern.Pattern.{nothing, empty, bytes, group, sequence, alternation, repeat}
 use Rattle.paper.specs.Pattern.Members.{two, more}
-use Rattle.paper.specs.Rows.{Rows, no_rows, setStart, setEnd, clear}
+use Rattle.paper.specs.Rows.{Rows, no_rows, set_start, set_end, clear}
 use Rattle.paper.specs.Reading.{takes}
 
 -- Machine 1: a pattern with its passes written out one by one and its groups numbered.
@@ -32,28 +32,28 @@ maybes (suc m) mode first n e = maybe mode first n e (maybes m mode first n e)
 
 abbrev pub optionals : ℕ → Upper → Mode → ℕ → ℕ → Core → Core
 optionals least (up_to most) mode first n e = maybes (most - least) mode first n e
-optionals least noEnd mode first n e = star mode first n e
+optionals least no_end mode first n e = star mode first n e
 
 -- Machine 1: a pattern written out; its first group, if it has one, is number `first`
 abbrev mutual
-  pub writtenOut : Pattern → ℕ → Core
-  writtenOut nothing first = dead
-  writtenOut empty first = skip
-  writtenOut (bytes ranges) first = eats ranges
-  writtenOut (group e) first = captures first (writtenOut e (suc first))
-  writtenOut (sequence ms) first = chained ms first
-  writtenOut (alternation ms) first = forked ms first
-  writtenOut (repeat least upper mode e) first =
-      let inside = writtenOut e first in
+  pub written_out : Pattern → ℕ → Core
+  written_out nothing first = dead
+  written_out empty first = skip
+  written_out (bytes ranges) first = eats ranges
+  written_out (group e) first = captures first (written_out e (suc first))
+  written_out (sequence ms) first = chained ms first
+  written_out (alternation ms) first = forked ms first
+  written_out (repeat least upper mode e) first =
+      let inside = written_out e first in
       musts least first (groups e) inside (optionals least upper mode first (groups e) inside)
 
   pub chained : Members → ℕ → Core
-  chained (two a b) first = chain (writtenOut a first) (writtenOut b (first + groups a))
-  chained (more a ms) first = chain (writtenOut a first) (chained ms (first + groups a))
+  chained (two a b) first = chain (written_out a first) (written_out b (first + groups a))
+  chained (more a ms) first = chain (written_out a first) (chained ms (first + groups a))
 
   pub forked : Members → ℕ → Core
-  forked (two a b) first = either (writtenOut a first) (writtenOut b (first + groups a))
-  forked (more a ms) first = either (writtenOut a first) (forked ms (first + groups a))
+  forked (two a b) first = either (written_out a first) (written_out b (first + groups a))
+  forked (more a ms) first = either (written_out a first) (forked ms (first + groups a))
 
 -- Machine 1: the kinds of place, each with its followers. A begin names the first group that it clears and how many
 pub data Place : Type 0 where
@@ -63,7 +63,7 @@ pub data Place : Type 0 where
   opening : ℕ → ℕ → Place
   closing : ℕ → ℕ → Place
   begin : ℕ → ℕ → ℕ → Place
-  beginOptional : ℕ → ℕ → ℕ → Place
+  begin_optional : ℕ → ℕ → ℕ → Place
   ending : ℕ → Place
   accept : Place
 
@@ -84,9 +84,9 @@ abbrev pub entry : Core → ℕ → ℕ → ℕ
 entry e base next = cond (eqb (size e) 0) next base
 
 -- Machine 1: a fork prefers the pass if greedy, stopping if lazy
-abbrev pub passFork : Mode → ℕ → ℕ → Place
-passFork greedy pass out = fork pass out
-passFork lazy pass out = fork out pass
+abbrev pub pass_fork : Mode → ℕ → ℕ → Place
+pass_fork greedy pass out = fork pass out
+pass_fork lazy pass out = fork out pass
 
 -- Machine 1: the places laid from `base` on, in the order of the records, with `next` as the place that follows
 abbrev pub lay : Core → ℕ → ℕ → List Place
@@ -112,17 +112,17 @@ lay (maybe mode first n e then) base next =
     let inside = base + 2 in
     let end = inside + size e in
     let after = end + 1 in
-    passFork mode (base + 1) next ∷ beginOptional first n (entry e inside end)
+    pass_fork mode (base + 1) next ∷ begin_optional first n (entry e inside end)
     ∷ (lay e inside end ++ (ending (entry then after next) ∷ lay then after next))
 lay (star mode first n e) base next =
     let inside = base + 2 in
     let end = inside + size e in
-    passFork mode (base + 1) next ∷ beginOptional first n (entry e inside end) ∷ (lay e inside end ++ (ending base ∷ []))
+    pass_fork mode (base + 1) next ∷ begin_optional first n (entry e inside end) ∷ (lay e inside end ++ (ending base ∷ []))
 
 -- Machine 1: the places of a pattern, with the accepting one last
 abbrev pub places_of : Pattern → ℕ → List Place
 places_of e first =
-    let core = writtenOut e first in
+    let core = written_out e first in
     lay core 0 (size core) ++ (accept ∷ [])
 
 -- Machine 2, first sentence
@@ -147,10 +147,10 @@ abbrev pub move_at : Place → List ℕ → ℕ → ℕ → Rows → Move
 move_at (one_of ranges next) line p level rows = cond (takes ranges line p) (eat next) die
 move_at stop line p level rows = die
 move_at (fork preferred other) line p level rows = split preferred other
-move_at (opening k next) line p level rows = lead (at next level (setStart k p rows))
-move_at (closing k next) line p level rows = lead (at next level (setEnd k p rows))
+move_at (opening k next) line p level rows = lead (at next level (set_start k p rows))
+move_at (closing k next) line p level rows = lead (at next level (set_end k p rows))
 move_at (begin first n next) line p level rows = lead (at next level (clear first n rows))
-move_at (beginOptional first n next) line p level rows = lead (at next (suc level) (clear first n rows))
+move_at (begin_optional first n next) line p level rows = lead (at next (suc level) (clear first n rows))
 move_at (ending next) line p level rows = cond (eqb level 0) (lead (at next 0 rows)) die
 move_at accept line p level rows = cond (eqb p (length line)) win die
 
@@ -169,17 +169,17 @@ pub record State : Type 0 where
 abbrev pub fresh : ℕ → State
 fresh steps = record { seen = []; carried = []; won = none; steps = steps }
 
-abbrev pub isSeen : ℕ → ℕ → List Pair → Bool
-isSeen place level [] = false
-isSeen place level (q ∷ qs) = (eqb q.place place && eqb q.level level) || isSeen place level qs
+abbrev pub is_seen : ℕ → ℕ → List Pair → Bool
+is_seen place level [] = false
+is_seen place level (q ∷ qs) = (eqb q.place place && eqb q.level level) || is_seen place level qs
 
-abbrev pub isWon : Option Rows → Bool
-isWon none = false
-isWon (some rows) = true
+abbrev pub is_won : Option Rows → Bool
+is_won none = false
+is_won (some rows) = true
 
 -- Machine 2: a pair already seen at this position is dropped; after accept at the line's end the machine has stopped
 abbrev pub blocked : Thread → State → Bool
-blocked t s = isWon s.won || isSeen t.place t.level s.seen
+blocked t s = is_won s.won || is_seen t.place t.level s.seen
 
 -- Machine 2: otherwise it is one step
 abbrev pub mark : Thread → State → State
@@ -191,13 +191,13 @@ abbrev pub carry : ℕ → Rows → State → State
 carry place rows s = record { seen = s.seen; carried = s.carried ++ (at place 0 rows ∷ []); won = s.won; steps = s.steps }
 
 -- Machine 2: accept at the line's end stops the machine with that thread's groups
-abbrev pub stopWith : Rows → State → State
-stopWith rows s = record { seen = s.seen; carried = s.carried; won = some rows; steps = s.steps }
+abbrev pub stop_with : Rows → State → State
+stop_with rows s = record { seen = s.seen; carried = s.carried; won = some rows; steps = s.steps }
 
 -- Machine 2: a move is followed wholly; a fork's preferred branch wholly before the other
 abbrev pub follow : (Thread → State → State) → Thread → Move → State → State
 follow visit t die s = s
-follow visit t win s = stopWith t.rows s
+follow visit t win s = stop_with t.rows s
 follow visit t (eat next) s = carry next t.rows s
 follow visit t (split preferred other) s = visit (at other t.level t.rows) (visit (at preferred t.level t.rows) s)
 follow visit t (lead u) s = visit u s
@@ -237,7 +237,7 @@ run (suc positions) turns code line p threads steps =
 
 -- Machine 2: no position has more pairs than this: a level for each optional pass that can be open, and level 0
 abbrev pub pairs : Pattern → ℕ
-pairs e = allPlaces e * (depth e + 1)
+pairs e = all_places e * (depth e + 1)
 
 -- Machine 2: the machine of a pattern on a line, started at the first place on level 0
 abbrev pub machine : Pattern → ℕ → List ℕ → Stopped

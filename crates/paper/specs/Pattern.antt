@@ -9,7 +9,7 @@ pub data Mode : Type 0 where
 -- Patterns 3: the most passes of a repeat, or no upper end
 pub data Upper : Type 0 where
   up_to : ℕ → Upper
-  noEnd : Upper
+  no_end : Upper
 
 -- Patterns 2, table, kind 2: a range of bytes, both ends in it
 pub record Range : Type 0 where
@@ -37,9 +37,9 @@ count (two a b) = 2
 count (more a ms) = suc (count ms)
 
 -- Patterns 3: the places of a repeat of something that has e places
-abbrev pub repeatPlaces : ℕ → Upper → ℕ → ℕ
-repeatPlaces least (up_to most) e = least * (1 + e) + (most - least) * (3 + e)
-repeatPlaces least noEnd e = least * (1 + e) + (3 + e)
+abbrev pub repeat_places : ℕ → Upper → ℕ → ℕ
+repeat_places least (up_to most) e = least * (1 + e) + (most - least) * (3 + e)
+repeat_places least no_end e = least * (1 + e) + (3 + e)
 
 -- Patterns 2, table, last column: the expanded places of a record, without the accepting place
 abbrev mutual
@@ -48,22 +48,22 @@ abbrev mutual
   places empty = 0
   places (bytes ranges) = 1
   places (group e) = 2 + places e
-  places (sequence ms) = placesOfAll ms
-  places (alternation ms) = placesOfAll ms + (count ms - 1)
-  places (repeat least upper mode e) = repeatPlaces least upper (places e)
+  places (sequence ms) = places_of_all ms
+  places (alternation ms) = places_of_all ms + (count ms - 1)
+  places (repeat least upper mode e) = repeat_places least upper (places e)
 
-  pub placesOfAll : Members → ℕ
-  placesOfAll (two a b) = places a + places b
-  placesOfAll (more a ms) = places a + placesOfAll ms
+  pub places_of_all : Members → ℕ
+  places_of_all (two a b) = places a + places b
+  places_of_all (more a ms) = places a + places_of_all ms
 
 -- Patterns 3: the places of the pattern, those of its record and one to accept
-abbrev pub allPlaces : Pattern → ℕ
-allPlaces e = places e + 1
+abbrev pub all_places : Pattern → ℕ
+all_places e = places e + 1
 
 -- Patterns 3: a repeat counts for the depth where its least is below its most
-abbrev pub hasOptional : ℕ → Upper → Bool
-hasOptional least (up_to most) = ltb least most
-hasOptional least noEnd = true
+abbrev pub has_optional : ℕ → Upper → Bool
+has_optional least (up_to most) = ltb least most
+has_optional least no_end = true
 
 -- Patterns 3: the most such repeats that stand inside one another
 abbrev mutual
@@ -72,13 +72,13 @@ abbrev mutual
   depth empty = 0
   depth (bytes ranges) = 0
   depth (group e) = depth e
-  depth (sequence ms) = depthOfAll ms
-  depth (alternation ms) = depthOfAll ms
-  depth (repeat least upper mode e) = cond (hasOptional least upper) (suc (depth e)) (depth e)
+  depth (sequence ms) = depth_of_all ms
+  depth (alternation ms) = depth_of_all ms
+  depth (repeat least upper mode e) = cond (has_optional least upper) (suc (depth e)) (depth e)
 
-  pub depthOfAll : Members → ℕ
-  depthOfAll (two a b) = max (depth a) (depth b)
-  depthOfAll (more a ms) = max (depth a) (depthOfAll ms)
+  pub depth_of_all : Members → ℕ
+  depth_of_all (two a b) = max (depth a) (depth b)
+  depth_of_all (more a ms) = max (depth a) (depth_of_all ms)
 
 -- Patterns 3: how many groups stand in a record, those inside a repeat of 0 to 0 too
 abbrev mutual
@@ -87,13 +87,13 @@ abbrev mutual
   groups empty = 0
   groups (bytes ranges) = 0
   groups (group e) = suc (groups e)
-  groups (sequence ms) = groupsOfAll ms
-  groups (alternation ms) = groupsOfAll ms
+  groups (sequence ms) = groups_of_all ms
+  groups (alternation ms) = groups_of_all ms
   groups (repeat least upper mode e) = groups e
 
-  pub groupsOfAll : Members → ℕ
-  groupsOfAll (two a b) = groups a + groups b
-  groupsOfAll (more a ms) = groups a + groupsOfAll ms
+  pub groups_of_all : Members → ℕ
+  groups_of_all (two a b) = groups a + groups b
+  groups_of_all (more a ms) = groups a + groups_of_all ms
 
 -- Patterns 4: the levels of a record, itself as the first
 abbrev mutual
@@ -102,10 +102,10 @@ abbrev mutual
   levels empty = 1
   levels (bytes ranges) = 1
   levels (group e) = suc (levels e)
-  levels (sequence ms) = suc (levelsOfAll ms)
-  levels (alternation ms) = suc (levelsOfAll ms)
+  levels (sequence ms) = suc (levels_of_all ms)
+  levels (alternation ms) = suc (levels_of_all ms)
   levels (repeat least upper mode e) = suc (levels e)
 
-  pub levelsOfAll : Members → ℕ
-  levelsOfAll (two a b) = max (levels a) (levels b)
-  levelsOfAll (more a ms) = max (levels a) (levelsOfAll ms)
+  pub levels_of_all : Members → ℕ
+  levels_of_all (two a b) = max (levels a) (levels b)
+  levels_of_all (more a ms) = max (levels a) (levels_of_all ms)

@@ -1,11 +1,11 @@
 -- Piece: which bytes a template record puts in, without copying.
 use Rattle.std.specs.Prelude.{ℕ, zero, suc, Bool, true, false, cond, ◌&&◌, List, [], ◌∷◌, leb, ltb, eqb, length, get_or}
-use Rattle.paper.specs.Limits.{lineBytes, tableNumbers, absent}
-use Rattle.paper.specs.Refusal.{Checked, refused, accepted, ◌>>=◌, ◌>>◌, holds, rowWrong, noSuchPiece}
+use Rattle.paper.specs.Limits.{line_bytes, table_numbers, absent}
+use Rattle.paper.specs.Refusal.{Checked, refused, accepted, ◌>>=◌, ◌>>◌, holds, row_wrong, no_such_piece}
 use Rattle.paper.specs.Check.{part}
-use Rattle.paper.specs.Rows.{Rows, rowStart, rowEnd}
-use Rattle.paper.specs.Match.{lineAndTable}
-use Rattle.paper.specs.Template.{Piece, literal, reference, templateOf}
+use Rattle.paper.specs.Rows.{Rows, row_start, row_end}
+use Rattle.paper.specs.Match.{line_and_table}
+use Rattle.paper.specs.Template.{Piece, literal, reference, template_of}
 
 -- Replace 3: out of the template or out of the line
 pub data Source : Type 0 where
@@ -18,37 +18,37 @@ pub record Span : Type 0 where
   pub end : ℕ
 
 -- Reading 5: absent is 65,535 twice
-abbrev pub isAbsent : ℕ → ℕ → Bool
-isAbsent start end = eqb start absent && eqb end absent
+abbrev pub is_absent : ℕ → ℕ → Bool
+is_absent start end = eqb start absent && eqb end absent
 
 -- Replace 3 and Refusals 1, table, 15: a row's part of the line; an absent one is the empty part at the line's start
-abbrev pub rowSpan : ℕ → ℕ → ℕ → Checked Span
-rowSpan size start end =
-    cond (isAbsent start end)
+abbrev pub row_span : ℕ → ℕ → ℕ → Checked Span
+row_span size start end =
+    cond (is_absent start end)
     (accepted (record { source = fromLine; start = 0; end = 0 }))
-    (holds (leb start end && leb end size) rowWrong 0 >> accepted (record { source = fromLine; start = start; end = end }))
+    (holds (leb start end && leb end size) row_wrong 0 >> accepted (record { source = fromLine; start = start; end = end }))
 
 -- Replace 3: what one template record puts in
 abbrev pub span_of : Piece → ℕ → Rows → Checked Span
 span_of (literal at start end) size table = accepted (record { source = fromTemplate; start = start; end = end })
-span_of (reference at row) size table = rowSpan size (rowStart row table) (rowEnd row table)
+span_of (reference at row) size table = row_span size (row_start row table) (row_end row table)
 
 -- Replace 3 and Refusals 1, table, 16: pieces are counted from 0
-abbrev pub spanAt : List Piece → ℕ → ℕ → Rows → Checked Span
-spanAt [] n size table = refused noSuchPiece 0
-spanAt (piece ∷ rest) zero size table = span_of piece size table
-spanAt (piece ∷ rest) (suc n) size table = spanAt rest n size table
+abbrev pub span_at : List Piece → ℕ → ℕ → Rows → Checked Span
+span_at [] n size table = refused no_such_piece 0
+span_at (piece ∷ rest) zero size table = span_of piece size table
+span_at (piece ∷ rest) (suc n) size table = span_at rest n size table
 
 -- Refusals 3: piece refuses by 9, 11, 12, 16, 15, in this order
-abbrev pub pieceCall : List ℕ → List ℕ → List ℕ → ℕ → Checked Span
-pieceCall template line table n =
-    templateOf template >>= λ pieces. lineAndTable line table >> spanAt pieces n (length line) table
+abbrev pub piece_call : List ℕ → List ℕ → List ℕ → ℕ → Checked Span
+piece_call template line table n =
+    template_of template >>= λ pieces. line_and_table line table >> span_at pieces n (length line) table
 
 -- Replace 3: the part itself, out of the source named; where the call refuses, the empty part at the template's start
-abbrev pub sourceBytes : Source → List ℕ → List ℕ → List ℕ
-sourceBytes fromTemplate t l = t
-sourceBytes fromLine t l = l
+abbrev pub source_bytes : Source → List ℕ → List ℕ → List ℕ
+source_bytes fromTemplate t l = t
+source_bytes fromLine t l = l
 
-abbrev pub partCall : Checked Span → List ℕ → List ℕ → List ℕ
-partCall (refused number place) t l = []
-partCall (accepted span) t l = part (sourceBytes span.source t l) span.start span.end
+abbrev pub part_call : Checked Span → List ℕ → List ℕ → List ℕ
+part_call (refused number place) t l = []
+part_call (accepted span) t l = part (source_bytes span.source t l) span.start span.end

@@ -2,53 +2,53 @@
 use Rattle.std.specs.Prelude.{ℕ, Bool, true, false}
 
 -- Refusals 1, table: the sixteen numbers by name, in the table's order
-abbrev pub patternTooLong : ℕ
-patternTooLong = 1
+abbrev pub pattern_too_long : ℕ
+pattern_too_long = 1
 
-abbrev pub brokenRecord : ℕ
-brokenRecord = 2
+abbrev pub broken_record : ℕ
+broken_record = 2
 
-abbrev pub unknownKind : ℕ
-unknownKind = 3
+abbrev pub unknown_kind : ℕ
+unknown_kind = 3
 
-abbrev pub setWrong : ℕ
-setWrong = 4
+abbrev pub set_wrong : ℕ
+set_wrong = 4
 
-abbrev pub repeatWrong : ℕ
-repeatWrong = 5
+abbrev pub repeat_wrong : ℕ
+repeat_wrong = 5
 
-abbrev pub tooDeep : ℕ
-tooDeep = 6
+abbrev pub too_deep : ℕ
+too_deep = 6
 
-abbrev pub tooManyGroups : ℕ
-tooManyGroups = 7
+abbrev pub too_many_groups : ℕ
+too_many_groups = 7
 
-abbrev pub tooManyPlaces : ℕ
-tooManyPlaces = 8
+abbrev pub too_many_places : ℕ
+too_many_places = 8
 
-abbrev pub templateWrong : ℕ
-templateWrong = 9
+abbrev pub template_wrong : ℕ
+template_wrong = 9
 
-abbrev pub referenceTooHigh : ℕ
-referenceTooHigh = 10
+abbrev pub reference_too_high : ℕ
+reference_too_high = 10
 
-abbrev pub lineTooLong : ℕ
-lineTooLong = 11
+abbrev pub line_too_long : ℕ
+line_too_long = 11
 
-abbrev pub tableTooShort : ℕ
-tableTooShort = 12
+abbrev pub table_too_short : ℕ
+table_too_short = 12
 
-abbrev pub outputTooLong : ℕ
-outputTooLong = 13
+abbrev pub output_too_long : ℕ
+output_too_long = 13
 
-abbrev pub tooManySteps : ℕ
-tooManySteps = 14
+abbrev pub too_many_steps : ℕ
+too_many_steps = 14
 
-abbrev pub rowWrong : ℕ
-rowWrong = 15
+abbrev pub row_wrong : ℕ
+row_wrong = 15
 
-abbrev pub noSuchPiece : ℕ
-noSuchPiece = 16
+abbrev pub no_such_piece : ℕ
+no_such_piece = 16
 
 -- Refusals 2: an answer is a refusal's number and place (an offset), or what was asked for
 pub data Checked (A : Type 0) : Type 0 where

@@ -8,17 +8,17 @@ use Rattle.paper.specs.Check.{Numbers}
 use Rattle.pattern.specs.declared.Answer.TheVariants.{Refused, Accepted}
 use Rattle.pattern.specs.Answer.{Checks}
 
-abbrev isAccepted : Checked Numbers → Bool
-isAccepted (refused number place) = false
-isAccepted (accepted numbers) = true
+abbrev is_accepted : Checked Numbers → Bool
+is_accepted (refused number place) = false
+is_accepted (accepted numbers) = true
 
 -- the pattern of case 4, the set that holds the byte a
 abbrev a : List ℕ
 a = 2 ∷ 0 ∷ 2 ∷ 0 ∷ 97 ∷ 97 ∷ []
 
-pub refuses-all : (number place : ℕ) → Checks a (Refused number place) → ⊥
-refuses-all number place p = true≢false (sym (ap isAccepted p.answer))
+pub refuses_all : (number place : ℕ) → Checks a (Refused number place) → ⊥
+refuses_all number place p = true≢false (sym (ap is_accepted p.answer))
 
 -- no bytes are no pattern
-pub accepts-all : (places depth groups : ℕ) → Checks [] (Accepted places depth groups) → ⊥
-accepts-all places depth groups p = true≢false (ap isAccepted p.answer)
+pub accepts_all : (places depth groups : ℕ) → Checks [] (Accepted places depth groups) → ⊥
+accepts_all places depth groups p = true≢false (ap is_accepted p.answer)

@@ -2,8 +2,8 @@
 use Rattle.std.specs.Prelude.{ℕ, ◌≡◌, List, ◌↔◌}
 use Rattle.paper.specs.Refusal.{Checked, refused, accepted}
 use Rattle.paper.specs.Pattern.{Pattern}
-use Rattle.paper.specs.Layout.{recordOf, Lawful}
-use Rattle.paper.specs.Check.{Numbers, numbersOf, check}
+use Rattle.paper.specs.Layout.{record_of, Lawful}
+use Rattle.paper.specs.Check.{Numbers, numbers_of, check}
 use Rattle.pattern.specs.declared.Answer.{Answer}
 use Rattle.pattern.specs.declared.Answer.TheVariants.{Refused, Accepted}
 
@@ -15,4 +15,4 @@ answer_of (Accepted places depth groups) = accepted (record { places = places; d
 -- the promise of `check`: the answer is `paper`'s; and numbers are answered exactly where the bytes are the record of a lawful tree, whose numbers they are
 pub record Checks (bs : List ℕ) (r : Answer) : Type 0 where
   pub answer : answer_of r ≡ check bs
-  pub lawful : (numbers : Numbers) → (answer_of r ≡ accepted numbers) ↔ ((e : Pattern) × Lawful e × (recordOf e ≡ bs) × (numbersOf e ≡ numbers))
+  pub lawful : (numbers : Numbers) → (answer_of r ≡ accepted numbers) ↔ ((e : Pattern) × Lawful e × (record_of e ≡ bs) × (numbers_of e ≡ numbers))

@@ -1,8 +1,8 @@
 // Counting places. A record's places are counted up to the pattern's limit, and that number stands for all beyond: with the accepting place they are too many.
 ghost use Rattle.std.specs.Prelude.{◌≡◌, ℕ, ◌+◌, ◌*◌, ◌^◌, ◌≤◌, ◌<◌, max};
-ghost use Rattle.paper.specs.Limits.{patternPlaces, repeatCount};
-ghost use Rattle.paper.specs.Check.{upperOf, repeatNumbersRight};
-ghost use Rattle.pattern.specs.Walk.{capped, passPlaces, optionalPasses};
+ghost use Rattle.paper.specs.Limits.{pattern_places, repeat_count};
+ghost use Rattle.paper.specs.Check.{upper_of, repeat_numbers_right};
+ghost use Rattle.pattern.specs.Walk.{capped, pass_places, optional_passes};
 
 use crate::Pattern;
 
@@ -20,8 +20,8 @@ pub fn sum(a: usize, b: usize) -> usize
 
 // The places of a repeat's passes. A count at the limit stays there unless there is no pass at all, as in a repeat of 0 to 0.
 pub fn passes(least: usize, optional: usize, inner: usize) -> usize
-    requires { (least ≤ repeatCount) × (optional ≤ repeatCount) × (inner ≤ patternPlaces) }
-    ensures { result ≡ capped (passPlaces least optional inner) }
+    requires { (least ≤ repeat_count) × (optional ≤ repeat_count) × (inner ≤ pattern_places) }
+    ensures { result ≡ capped (pass_places least optional inner) }
 {
     if inner < Pattern::PLACES {
         sum(least * (1 + inner), optional * (3 + inner))
@@ -34,7 +34,7 @@ pub fn passes(least: usize, optional: usize, inner: usize) -> usize
 
 // Whether a repeat may have these three numbers.
 pub fn right(least: usize, most: usize, mode: usize) -> bool
-    ensures { result ≡ repeatNumbersRight least most mode }
+    ensures { result ≡ repeat_numbers_right least most mode }
 {
     if Pattern::REPEAT_COUNT < least {
         return false;
@@ -54,7 +54,7 @@ pub fn right(least: usize, most: usize, mode: usize) -> bool
 // The optional passes of a repeat that have places: one where there is no upper end.
 pub fn optional(least: usize, most: usize) -> usize
     requires { least ≤ most }
-    ensures { result ≡ optionalPasses least (upperOf most) }
+    ensures { result ≡ optional_passes least (upper_of most) }
 {
     if most == Pattern::NO_UPPER_END {
         1

@@ -4,12 +4,12 @@ mod sets;
 mod walk;
 
 ghost use Rattle.std.specs.Prelude.{◌≡◌, [], ◌∷◌, map};
-ghost use Rattle.paper.specs.Limits.{patternBytes, patternLevels, patternGroups, patternPlaces, setPairs, repeatCount, noUpperEnd, templateBytes, lineBytes, rowCount, tableNumbers, absent};
-ghost use Rattle.paper.specs.Refusal.{patternTooLong, brokenRecord, unknownKind, setWrong, repeatWrong, tooDeep, tooManyGroups, tooManyPlaces, templateWrong, referenceTooHigh, lineTooLong, tableTooShort, outputTooLong, tooManySteps, rowWrong, noSuchPiece};
+ghost use Rattle.paper.specs.Limits.{pattern_bytes, pattern_levels, pattern_groups, pattern_places, set_pairs, repeat_count, no_upper_end, template_bytes, line_bytes, row_count, table_numbers, absent};
+ghost use Rattle.paper.specs.Refusal.{pattern_too_long, broken_record, unknown_kind, set_wrong, repeat_wrong, too_deep, too_many_groups, too_many_places, template_wrong, reference_too_high, line_too_long, table_too_short, output_too_long, too_many_steps, row_wrong, no_such_piece};
 ghost use Rattle.paper.specs.Pattern.{greedy, lazy};
-ghost use Rattle.paper.specs.Layout.{kinds, kindNumber, modeNumber};
+ghost use Rattle.paper.specs.Layout.{kinds, kind_number, mode_number};
 ghost use Rattle.paper.specs.Rows.{no_rows};
-ghost use Rattle.paper.specs.Tables.{forkPlace, openPlace, closePlace, beginPlace, beginOptionalPlace, endPlace, setPlace, rangePlace, stopPlace, acceptPlace};
+ghost use Rattle.paper.specs.Tables.{fork_place, open_place, close_place, begin_place, begin_optional_place, end_place, set_place, range_place, stop_place, accept_place};
 ghost use Rattle.pattern.specs.Answer.{Checks};
 
 use walk::Walked;
@@ -39,7 +39,7 @@ impl Pattern {
 
     // The numbers above are `paper`'s.
     pub fn limits() -> [usize; 9]
-        ensures { result ≡ patternBytes ∷ patternLevels ∷ patternGroups ∷ patternPlaces ∷ setPairs ∷ repeatCount ∷ noUpperEnd ∷ modeNumber greedy ∷ modeNumber lazy ∷ [] }
+        ensures { result ≡ pattern_bytes ∷ pattern_levels ∷ pattern_groups ∷ pattern_places ∷ set_pairs ∷ repeat_count ∷ no_upper_end ∷ mode_number greedy ∷ mode_number lazy ∷ [] }
     {
         [
             Pattern::BYTES,
@@ -64,7 +64,7 @@ impl Template {
 
     // The number above is `paper`'s.
     pub fn limits() -> [usize; 1]
-        ensures { result ≡ templateBytes ∷ [] }
+        ensures { result ≡ template_bytes ∷ [] }
     {
         [Template::BYTES]
     }
@@ -79,7 +79,7 @@ impl Line {
 
     // The number above is `paper`'s.
     pub fn limits() -> [usize; 1]
-        ensures { result ≡ lineBytes ∷ [] }
+        ensures { result ≡ line_bytes ∷ [] }
     {
         [Line::BYTES]
     }
@@ -106,7 +106,7 @@ impl Spans {
 
     // The counts above are `paper`'s.
     pub fn limits() -> [usize; 2]
-        ensures { result ≡ rowCount ∷ tableNumbers ∷ [] }
+        ensures { result ≡ row_count ∷ table_numbers ∷ [] }
     {
         [Spans::ROWS, Spans::NUMBERS]
     }
@@ -133,7 +133,7 @@ impl Kind {
 
     // The numbers above are `paper`'s.
     pub fn all() -> [usize; 7]
-        ensures { result ≡ map kindNumber kinds }
+        ensures { result ≡ map kind_number kinds }
     {
         [
             Kind::NOTHING,
@@ -174,7 +174,7 @@ impl PlaceKind {
 
     // The kinds above are `paper`'s.
     pub fn all() -> [u16; 10]
-        ensures { result ≡ forkPlace ∷ openPlace ∷ closePlace ∷ beginPlace ∷ beginOptionalPlace ∷ endPlace ∷ setPlace ∷ rangePlace ∷ stopPlace ∷ acceptPlace ∷ [] }
+        ensures { result ≡ fork_place ∷ open_place ∷ close_place ∷ begin_place ∷ begin_optional_place ∷ end_place ∷ set_place ∷ range_place ∷ stop_place ∷ accept_place ∷ [] }
     {
         [
             PlaceKind::FORK,
@@ -233,7 +233,7 @@ impl Refusal {
 
     // The numbers above are `paper`'s.
     pub fn all() -> [usize; 16]
-        ensures { result ≡ patternTooLong ∷ brokenRecord ∷ unknownKind ∷ setWrong ∷ repeatWrong ∷ tooDeep ∷ tooManyGroups ∷ tooManyPlaces ∷ templateWrong ∷ referenceTooHigh ∷ lineTooLong ∷ tableTooShort ∷ outputTooLong ∷ tooManySteps ∷ rowWrong ∷ noSuchPiece ∷ [] }
+        ensures { result ≡ pattern_too_long ∷ broken_record ∷ unknown_kind ∷ set_wrong ∷ repeat_wrong ∷ too_deep ∷ too_many_groups ∷ too_many_places ∷ template_wrong ∷ reference_too_high ∷ line_too_long ∷ table_too_short ∷ output_too_long ∷ too_many_steps ∷ row_wrong ∷ no_such_piece ∷ [] }
     {
         [
             Refusal::PATTERN_TOO_LONG,

@@ -1,9 +1,9 @@
 // The walk over a pattern's records, outer before inner and left to right. Each function answers with the first fault or with what it counted.
 ghost use Rattle.std.specs.Prelude.{◌≡◌, ◌+◌, ◌≤◌};
-ghost use Rattle.paper.specs.Limits.{patternBytes, patternLevels, repeatCount};
-ghost use Rattle.paper.specs.Layout.{kindNumber, groupKind, repeatKind};
-ghost use Rattle.paper.specs.Check.{bodyStart, bodyEnd, single, body, walkRecord};
-ghost use Rattle.pattern.specs.Walk.{leafOf, group_of, repeatOf, severalOf, ofKind, members_of, Within, AllWithin, Tells, TellsAll, Held, Room};
+ghost use Rattle.paper.specs.Limits.{pattern_bytes, pattern_levels, repeat_count};
+ghost use Rattle.paper.specs.Layout.{kind_number, groupKind, repeatKind};
+ghost use Rattle.paper.specs.Check.{body_start, body_end, single, body, walk_record};
+ghost use Rattle.pattern.specs.Walk.{leaf_of, group_of, repeat_of, several_of, of_kind, members_of, Within, AllWithin, Tells, TellsAll, Held, Room};
 
 use crate::{Kind, Pattern, Refusal, counts, sets};
 use records::Header;
@@ -41,7 +41,7 @@ pub enum Several {
 
 // A record that holds no other.
 fn leaf(right: bool, number: usize, at: usize, end: usize, places: usize, before: usize) -> Walked
-    ensures { result ≡ leafOf right number at end places before }
+    ensures { result ≡ leaf_of right number at end places before }
 {
     if right {
         Walked::Record {
@@ -57,7 +57,7 @@ fn leaf(right: bool, number: usize, at: usize, end: usize, places: usize, before
 
 // A group, by what it holds: its two ends are two places more.
 fn as_group(inner: Walked) -> Walked
-    requires { Within patternBytes patternLevels inner }
+    requires { Within pattern_bytes pattern_levels inner }
     ensures { result ≡ group_of inner }
 {
     match inner {
@@ -78,8 +78,8 @@ fn as_group(inner: Walked) -> Walked
 
 // A repeat, by its passes and what it holds.
 fn as_repeat(inner: Walked, least: usize, optional: usize) -> Walked
-    requires { (least ≤ repeatCount) × (optional ≤ repeatCount) × Within patternBytes patternLevels inner }
-    ensures { result ≡ repeatOf least optional inner }
+    requires { (least ≤ repeat_count) × (optional ≤ repeat_count) × Within pattern_bytes pattern_levels inner }
+    ensures { result ≡ repeat_of least optional inner }
 {
     match inner {
         Walked::Refused(number, place) => Walked::Refused(number, place),
@@ -111,8 +111,8 @@ fn as_repeat(inner: Walked, least: usize, optional: usize) -> Walked
 
 // A sequence or an alternation, by what it holds: two records at least, and in an alternation a fork before each but the last.
 fn as_several(inner: Several, at: usize, end: usize, forks: bool) -> Walked
-    requires { AllWithin patternLevels inner }
-    ensures { result ≡ severalOf at end forks inner }
+    requires { AllWithin pattern_levels inner }
+    ensures { result ≡ several_of at end forks inner }
 {
     match inner {
         Several::Fault(number, place) => Walked::Refused(number, place),
@@ -147,7 +147,7 @@ fn as_several(inner: Several, at: usize, end: usize, forks: bool) -> Walked
 #[cycle(all_inside_any_record_body_group_one_inside_repeat)]
 pub fn any_record(s: &[u8], at: usize, stop: usize, levels: usize, before: usize) -> Walked
     requires { Held s.now at stop levels before }
-    ensures { Tells stop levels (bodyEnd s.now at) before (walkRecord levels s.now at stop before) result }
+    ensures { Tells stop levels (body_end s.now at) before (walk_record levels s.now at stop before) result }
 {
     match records::header_at(s, at, stop) {
         Header::Broken => Walked::Refused(Refusal::BROKEN_RECORD, at),
@@ -174,8 +174,8 @@ fn body(
     left: usize,
     before: usize,
 ) -> Walked
-    requires { Room s.now at end left before × (start ≡ bodyStart at) × (kind ≤ kindNumber repeatKind) }
-    ensures { Tells end (left + 1) end before (ofKind kind (walkRecord left s.now) s.now at before) result }
+    requires { Room s.now at end left before × (start ≡ body_start at) × (kind ≤ kind_number repeatKind) }
+    ensures { Tells end (left + 1) end before (of_kind kind (walk_record left s.now) s.now at before) result }
 {
     match kind {
         Kind::NOTHING => leaf(start == end, Refusal::BROKEN_RECORD, at, end, 1, before),
@@ -198,8 +198,8 @@ fn body(
 // A group: 7, then the one record inside.
 #[cycle(all_inside_any_record_body_group_one_inside_repeat)]
 fn group(s: &[u8], at: usize, start: usize, end: usize, left: usize, before: usize) -> Walked
-    requires { Room s.now at end left before × (start ≡ bodyStart at) }
-    ensures { Tells end (left + 1) end before (body groupKind (walkRecord left s.now) s.now at before) result }
+    requires { Room s.now at end left before × (start ≡ body_start at) }
+    ensures { Tells end (left + 1) end before (body groupKind (walk_record left s.now) s.now at before) result }
 {
     if before < Pattern::GROUPS {
         as_group(one_inside(s, at, start, end, left, before + 1))
@@ -211,8 +211,8 @@ fn group(s: &[u8], at: usize, start: usize, end: usize, left: usize, before: usi
 // A repeat: its three numbers, then the one record inside.
 #[cycle(all_inside_any_record_body_group_one_inside_repeat)]
 fn repeat(s: &[u8], at: usize, start: usize, end: usize, left: usize, before: usize) -> Walked
-    requires { Room s.now at end left before × (start ≡ bodyStart at) }
-    ensures { Tells end (left + 1) end before (body repeatKind (walkRecord left s.now) s.now at before) result }
+    requires { Room s.now at end left before × (start ≡ body_start at) }
+    ensures { Tells end (left + 1) end before (body repeatKind (walk_record left s.now) s.now at before) result }
 {
     if end - start < REPEAT_HEAD {
         return Walked::Refused(Refusal::BROKEN_RECORD, at);
@@ -242,7 +242,7 @@ fn one_inside(
     before: usize,
 ) -> Walked
     requires { Room s.now holder end left before × (from ≤ end) }
-    ensures { Tells end left end before (single (walkRecord left s.now) s.now holder from before) result }
+    ensures { Tells end left end before (single (walk_record left s.now) s.now holder from before) result }
 {
     match any_record(s, from, end, left, before) {
         Walked::Refused(number, place) => Walked::Refused(number, place),
@@ -269,8 +269,8 @@ fn one_inside(
 // All the records inside a sequence or an alternation, left to right.
 #[cycle(all_inside_any_record_body_group_one_inside_repeat)]
 fn all_inside(s: &[u8], at: usize, start: usize, end: usize, left: usize, before: usize) -> Several
-    requires { Room s.now at end left before × (start ≡ bodyStart at) }
-    ensures { TellsAll left before (members_of (walkRecord left s.now) s.now at before) result }
+    requires { Room s.now at end left before × (start ≡ body_start at) }
+    ensures { TellsAll left before (members_of (walk_record left s.now) s.now at before) result }
 {
     let mut next = start;
     let mut count = 0;

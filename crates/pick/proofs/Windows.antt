@@ -33,12 +33,12 @@ pub record Moving (old new : List ℕ) (start i : ℕ) : Type 0 where
   pub front : take i new ≡ take i (drop start old)
   pub rest : drop (start + i) new ≡ drop (start + i) old
 
-pub moving-first : (old : List ℕ) (start : ℕ) → Moving old old start 0
-moving-first old start = record { same_length = refl; front = refl; rest = refl }
+pub moving_first : (old : List ℕ) (start : ℕ) → Moving old old start 0
+moving_first old start = record { same_length = refl; front = refl; rest = refl }
 
 -- the byte to be copied next is as it was
-moving-byte : (old new : List ℕ) (start i : ℕ) → Moving old new start i → get_or new (start + i) 0 ≡ get_or (drop start old) i 0
-moving-byte old new start i m =
+moving_byte : (old new : List ℕ) (start i : ℕ) → Moving old new start i → get_or new (start + i) 0 ≡ get_or (drop start old) i 0
+moving_byte old new start i m =
     let plain : (start + i) + 0 ≡ start + i = omega arith in
     let there : get_or (drop (start + i) new) 0 0 ≡ get_or (drop (start + i) old) 0 0 = ap (λ (l : List ℕ). get_or l 0 0) m.rest in
     let here : get_or new (start + i) 0 ≡ get_or (drop (start + i) new) 0 0 = sym (get_or-drop (start + i) new 0 0 ∙ ap (λ (n : ℕ). get_or new n 0) plain) in
@@ -46,51 +46,51 @@ moving-byte old new start i m =
     here ∙ there ∙ was ∙ sym (get_or-drop start old i 0)
 
 -- what stands behind one byte more is as it was
-drop-one : (l : List ℕ) (n : ℕ) → drop (n + 1) l ≡ drop 1 (drop n l)
-drop-one l n = sym (drop-drop 1 n l)
+drop_one : (l : List ℕ) (n : ℕ) → drop (n + 1) l ≡ drop 1 (drop n l)
+drop_one l n = sym (drop-drop 1 n l)
 
-moving-rest : (old new : List ℕ) (start i v : ℕ) → Moving old new start i → drop (start + (i + 1)) (set new i v) ≡ drop (start + (i + 1)) old
-moving-rest old new start i v m =
+moving_rest : (old new : List ℕ) (start i v : ℕ) → Moving old new start i → drop (start + (i + 1)) (set new i v) ≡ drop (start + (i + 1)) old
+moving_rest old new start i v m =
     let next : start + (i + 1) ≡ (start + i) + 1 = omega arith in
-    drop-set-lt (start + (i + 1)) new i v (omega arith) ∙ rw next (drop-one new (start + i) ∙ ap (drop 1) m.rest ∙ sym (drop-one old (start + i)))
+    drop-set-lt (start + (i + 1)) new i v (omega arith) ∙ rw next (drop_one new (start + i) ∙ ap (drop 1) m.rest ∙ sym (drop_one old (start + i)))
 
-pub moving-more : (old new : List ℕ) (start i : ℕ) → start + i < length old → Moving old new start i → Moving old (set new i (get_or new (start + i) 0)) start (i + 1)
-moving-more old new start i inside m =
+pub moving_more : (old new : List ℕ) (start i : ℕ) → start + i < length old → Moving old new start i → Moving old (set new i (get_or new (start + i) 0)) start (i + 1)
+moving_more old new start i inside m =
     let room : i < length new = omega (arith, m.same_length) in
     let long : i < length (drop start old) = simp length-drop (omega arith) in
     record {
       same_length = length-set new i (get_or new (start + i) 0) ∙ m.same_length;
       front =
-          rw (add-one, take-suc-set new i (get_or new (start + i) 0) room, take-suc (drop start old) i 0 long, moving-byte old new start i m)
+          rw (add-one, take-suc-set new i (get_or new (start + i) 0) room, take-suc (drop start old) i 0 long, moving_byte old new start i m)
           (ap (λ (l : List ℕ). l ++ (get_or (drop start old) i 0 ∷ [])) m.front);
-      rest = moving-rest old new start i (get_or new (start + i) 0) m;
+      rest = moving_rest old new start i (get_or new (start + i) 0) m;
     }
 
-pub moving-last : (old new : List ℕ) (start end n : ℕ) → n ≡ end - start → Moving old new start n → Moved old start end new 0 n
-moving-last old new start end n long m =
+pub moving_last : (old new : List ℕ) (start end n : ℕ) → n ≡ end - start → Moving old new start n → Moved old start end new 0 n
+moving_last old new start end n long m =
     let whole : n - 0 ≡ n = omega arith in
     record { first = refl; long = long; same = rw (whole, ← long) m.front }
 
 -- Steps of the window
 
-pub grown-none : (old : List ℕ) (start end : ℕ) → start ≤ end → end ≤ length old → Grown old start end old start end
-grown-none old start end forward inside = record {
+pub grown_none : (old : List ℕ) (start end : ℕ) → start ≤ end → end ≤ length old → Grown old start end old start end
+grown_none old start end forward inside = record {
   forward = forward;
   inside = inside;
   longer = omega arith;
   kept = take-take (end - start) (end - start) (drop start old) (omega arith);
 }
 
-pub grown-moved : (old : List ℕ) (start end : ℕ) (new : List ℕ) (from to : ℕ) → end ≤ length old → Moved old start end new from to → Grown old start end new from to
-grown-moved old start end new from to inside m = record {
+pub grown_moved : (old : List ℕ) (start end : ℕ) (new : List ℕ) (from to : ℕ) → end ≤ length old → Moved old start end new from to → Grown old start end new from to
+grown_moved old start end new from to inside m = record {
   forward = omega (arith, m.first);
   inside = omega (arith, m.long);
   longer = omega (arith, m.first, m.long);
   kept = ap (take (end - start)) m.same ∙ take-take (end - start) (end - start) (drop start old) (omega arith);
 }
 
-pub grown-then : (old mid new : List ℕ) (start end from to at stop : ℕ) → length mid ≡ length old → Grown old start end mid from to → Grown mid from to new at stop → Grown old start end new at stop
-grown-then old mid new start end from to at stop same one other = record {
+pub grown_then : (old mid new : List ℕ) (start end from to at stop : ℕ) → length mid ≡ length old → Grown old start end mid from to → Grown mid from to new at stop → Grown old start end new at stop
+grown_then old mid new start end from to at stop same one other = record {
   forward = other.forward;
   inside = omega (arith, other.inside);
   longer = omega (arith, one.longer, other.longer);
@@ -101,19 +101,19 @@ grown-then old mid new start end from to at stop same one other = record {
 }
 
 -- a part of a list is a part of its beginning
-part-front : (l : List ℕ) (start end : ℕ) → start ≤ end → start ≤ length l → part l start end ≡ drop start (take end l)
-part-front l start end forward inside =
+part_front : (l : List ℕ) (start end : ℕ) → start ≤ end → start ≤ length l → part l start end ≡ drop start (take end l)
+part_front l start end forward inside =
     let whole : start + (end - start) ≡ end = omega arith in
     sym (ap (λ (n : ℕ). drop start (take n l)) (sym whole) ∙ ap (drop start) (take-add start (end - start) l) ∙ drop_at (take start l) (take (end - start) (drop start l)) start (length-take-le start l inside))
 
-pub grown-read : (old new : List ℕ) (start end to : ℕ) → start ≤ end → end ≤ length old → length new ≡ length old → end ≤ to → to ≤ length old → take end new ≡ take end old → Grown old start end new start to
-grown-read old new start end to forward inside same further ends kept = record {
+pub grown_read : (old new : List ℕ) (start end to : ℕ) → start ≤ end → end ≤ length old → length new ≡ length old → end ≤ to → to ≤ length old → take end new ≡ take end old → Grown old start end new start to
+grown_read old new start end to forward inside same further ends kept = record {
   forward = omega arith;
   inside = ends;
   longer = omega arith;
   kept =
       take-take (end - start) (to - start) (drop start new) (omega arith)
-      ∙ part-front new start end forward (omega arith)
+      ∙ part_front new start end forward (omega arith)
       ∙ ap (drop start) kept
-      ∙ sym (part-front old start end forward (omega arith));
+      ∙ sym (part_front old start end forward (omega arith));
 }

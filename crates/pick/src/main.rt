@@ -5,7 +5,7 @@ mod window;
 ghost use Rattle.std.specs.Prelude.{◌≤◌, ◌≡◌, false, length, take};
 ghost use Rattle.machine.specs.Machine.{Runnable};
 ghost use Rattle.printer.specs.Gathered.{Gathered};
-ghost use Rattle.job.specs.Comes.{bodyBytes};
+ghost use Rattle.job.specs.Comes.{body_bytes};
 ghost use Rattle.pick.specs.Job.{Lines, Tables};
 
 use job::{Job, Next};
@@ -246,7 +246,7 @@ fn whole_job(
     pending: &mut [u16],
     out: &mut [u8],
 ) -> usize
-    requires { Tables buffer.old code.old seen.old taken.old lists.old pending.old 0 0 × (bodyBytes ≤ length bytes.old) }
+    requires { Tables buffer.old code.old seen.old taken.old lists.old pending.old 0 0 × (body_bytes ≤ length bytes.old) }
 {
     let window = window::ready(
         buffer,

@@ -7,52 +7,52 @@ use native.Mathlib.Omega.{arith}
 use lib.Dec.{eqb}
 use lib.ListN.{length}
 use Rattle.paper.specs.Pattern.{Range, Pattern, places, groups}
-use Rattle.paper.specs.Check.{bodyEnd, kind_at, part, rangesOf}
-use Rattle.paper.specs.Machine.{Core, captures, size, writtenOut, opening, closing, one_of}
-use Rattle.paper.proofs.machine.Sizes.{size-written}
+use Rattle.paper.specs.Check.{body_end, kind_at, part, ranges_of}
+use Rattle.paper.specs.Machine.{Core, captures, size, written_out, opening, closing, one_of}
+use Rattle.paper.proofs.machine.Sizes.{size_written}
 use Rattle.laying.specs.Laid.{Holds, Kept, entry_of, Lays}
 use Rattle.laying.specs.Single.{Fitting, Put, Ranged, RangedLaid, Head}
-use Rattle.laying.proofs.Stores.{put_holds, plain-holds, holds_kept, lays-kept, lays-none, kept-none, kept-both}
-use Rattle.laying.proofs.Entering.{entry-small, at_least_one}
-use Rattle.laying.proofs.Single.{head-stands}
+use Rattle.laying.proofs.Stores.{put_holds, plain_holds, holds_kept, lays_kept, lays_none, kept_none, kept_both}
+use Rattle.laying.proofs.Entering.{entry_small, at_least_one}
+use Rattle.laying.proofs.Single.{head_stands}
 use Rattle.places.specs.Walk.{One, OneLaid, HeadLaid, Several, SeveralLaid, Repeat, RepeatLaid}
 use Rattle.places.specs.Standing.{Row}
-use Rattle.places.proofs.Adding.{row-long}
-use Rattle.places.proofs.Views.{RowView, nothing-view, set_view, group-view, repeat-view, row-view}
+use Rattle.places.proofs.Adding.{row_long}
+use Rattle.places.proofs.Views.{RowView, nothing_view, set_view, group_view, repeat_view, row_view}
 
 -- `one` without places
-pub nothing-to-lay : {bs : List ℕ} {at stop base next first n gs : ℕ} {t : List ℕ} → n ≡ 0 → OneLaid bs at stop base next first n gs t t
-nothing-to-lay {bs} {base = base} {next = next} {first = first} {n = n} {t = t} none =
+pub nothing_to_lay : {bs : List ℕ} {at stop base next first n gs : ℕ} {t : List ℕ} → n ≡ 0 → OneLaid bs at stop base next first n gs t t
+nothing_to_lay {bs} {base = base} {next = next} {first = first} {n = n} {t = t} none =
     record {
-      kept = kept-none base (base + n) t;
-      laid = λ m. lays-none (writtenOut m.tree first) t bs base next (size-written m.tree first ∙ sym m.places-are ∙ none);
+      kept = kept_none base (base + n) t;
+      laid = λ m. lays_none (written_out m.tree first) t bs base next (size_written m.tree first ∙ sym m.places_are ∙ none);
     }
 
 -- what is laid of a tree is laid of the same tree by another name
-as-tree : (t bs : List ℕ) (first base next : ℕ) {e f : Pattern} → e ≡ f → Lays t bs (writtenOut f first) base next → Lays t bs (writtenOut e first) base next
-as-tree t bs first base next is h = subst (λ (e : Pattern). Lays t bs (writtenOut e first) base next) (sym is) h
+as_tree : (t bs : List ℕ) (first base next : ℕ) {e f : Pattern} → e ≡ f → Lays t bs (written_out f first) base next → Lays t bs (written_out e first) base next
+as_tree t bs first base next is h = subst (λ (e : Pattern). Lays t bs (written_out e first) base next) (sym is) h
 
 -- one place is inside the part that may change
 one_kept : {base n : ℕ} {t t' : List ℕ} → (n ≡ 0 → ⊥) → Kept base (base + 1) t t' → Kept base (base + n) t t'
-one_kept {base} {n} {t} {t'} some k = kept-both base (base + n) k (kept-none base base t') (omega arith) (one_more n some) (omega arith) (omega arith)
+one_kept {base} {n} {t} {t'} some k = kept_both base (base + n) k (kept_none base base t') (omega arith) (one_more n some) (omega arith) (omega arith)
   where
     one_more : (n : ℕ) → (n ≡ 0 → ⊥) → base + 1 ≤ base + n
     one_more zero some = absurd (some refl)
     one_more (suc n) some = omega arith
 
 -- a record that takes nothing is one place
-pub stop-laid : {bs : List ℕ} {at stop base next first n gs kind : ℕ} {t t' : List ℕ} → (n ≡ 0 → ⊥) → kind ≡ kind_at bs at → kind ≡ 0 → Put t base 8 0 0 0 t'
+pub stop_laid : {bs : List ℕ} {at stop base next first n gs kind : ℕ} {t t' : List ℕ} → (n ≡ 0 → ⊥) → kind ≡ kind_at bs at → kind ≡ 0 → Put t base 8 0 0 0 t'
     → OneLaid bs at stop base next first n gs t t'
-stop-laid {bs} {at} {base = base} {next = next} {first = first} {t' = t'} some ek none put =
+stop_laid {bs} {at} {base = base} {next = next} {first = first} {t' = t'} some ek none put =
     record {
       kept = one_kept some put.kept;
-      laid = λ m. as-tree t' bs first base next (nothing-view m.tree bs at m.inside.stand (sym ek ∙ none)) (put_holds bs put (omega arith) (λ e. absurd (omega arith)));
+      laid = λ m. as_tree t' bs first base next (nothing_view m.tree bs at m.inside.stand (sym ek ∙ none)) (put_holds bs put (omega arith) (λ e. absurd (omega arith)));
     }
 
 -- a byte set is one place
-pub set-ask : {bs : List ℕ} {at stop base next first n gs kind : ℕ} → One bs at stop base next first n gs → (n ≡ 0 → ⊥) → kind ≡ kind_at bs at → kind ≡ 2
+pub set_ask : {bs : List ℕ} {at stop base next first n gs kind : ℕ} → One bs at stop base next first n gs → (n ≡ 0 → ⊥) → kind ≡ kind_at bs at → kind ≡ 2
     → Ranged bs (at + 4) stop base next
-set-ask {bs} {at} m some ek two =
+set_ask {bs} {at} m some ek two =
     let v = set_view m.tree bs at m.inside.stand (sym ek ∙ two) in
     record {
       pairs = length v.ranges;
@@ -64,22 +64,22 @@ set-ask {bs} {at} m some ek two =
       follows = m.follows;
     }
 
-pub set-laid : {bs : List ℕ} {at stop base next first n gs kind : ℕ} {t t' : List ℕ} → (n ≡ 0 → ⊥) → kind ≡ kind_at bs at → kind ≡ 2
+pub set_laid : {bs : List ℕ} {at stop base next first n gs kind : ℕ} {t t' : List ℕ} → (n ≡ 0 → ⊥) → kind ≡ kind_at bs at → kind ≡ 2
     → RangedLaid bs (at + 4) stop base next t t' → OneLaid bs at stop base next first n gs t t'
-set-laid {bs} {at} {base = base} {next = next} {first = first} {t' = t'} some ek two r =
+set_laid {bs} {at} {base = base} {next = next} {first = first} {t' = t'} some ek two r =
     record {
       kept = one_kept some r.kept;
       laid = λ m.
           let v = set_view m.tree bs at m.inside.stand (sym ek ∙ two) in
-          let ranges = ap (λ (e : ℕ). rangesOf (part bs (at + 4) e)) (sym m.inside.end_is) ∙ v.pairs.found in
-          as-tree t' bs first base next v.is (subst (λ (r : List Range). Holds t' bs base (one_of r next)) ranges r.held);
+          let ranges = ap (λ (e : ℕ). ranges_of (part bs (at + 4) e)) (sym m.inside.end_is) ∙ v.pairs.found in
+          as_tree t' bs first base next v.is (subst (λ (r : List Range). Holds t' bs base (one_of r next)) ranges r.held);
     }
 
 -- a group: its open, what it holds, its close
-abbrev pub group-one : {bs : List ℕ} {at stop base next first n gs kind : ℕ} → One bs at stop base next first n gs → kind ≡ kind_at bs at → kind ≡ 3
+abbrev pub group_one : {bs : List ℕ} {at stop base next first n gs kind : ℕ} → One bs at stop base next first n gs → kind ≡ kind_at bs at → kind ≡ 3
     → One bs (at + 4) stop (base + 1) (base + 1 + (n - 2)) (first + 1) (n - 2) (gs - 1)
-group-one {bs} {at} m ek three =
-    let v = group-view m.tree bs at m.inside.stand (sym ek ∙ three) in
+group_one {bs} {at} m ek three =
+    let v = group_view m.tree bs at m.inside.stand (sym ek ∙ three) in
     let e : places m.tree ≡ 2 + places v.inner = ap places v.is in
     let f : groups m.tree ≡ suc (groups v.inner) = ap groups v.is in
     record {
@@ -91,31 +91,31 @@ group-one {bs} {at} m ek three =
         short = m.inside.short;
         few = omega (arith, m.inside.few);
       };
-      places-are = omega (arith, m.places-are);
-      groups-are = omega (arith, m.groups-are);
+      places_are = omega (arith, m.places_are);
+      groups_are = omega (arith, m.groups_are);
       small = omega (arith, m.small);
-      room = omega (arith, m.room, m.places-are);
-      follows = omega (arith, m.room, m.places-are);
+      room = omega (arith, m.room, m.places_are);
+      follows = omega (arith, m.room, m.places_are);
     }
 
 -- a group has its open and its close
-pub group-two : {bs : List ℕ} {at stop base next first n gs kind : ℕ} → One bs at stop base next first n gs → kind ≡ kind_at bs at → kind ≡ 3 → 2 ≤ n
-group-two {bs} {at} m ek three =
-    let v = group-view m.tree bs at m.inside.stand (sym ek ∙ three) in
+pub group_two : {bs : List ℕ} {at stop base next first n gs kind : ℕ} → One bs at stop base next first n gs → kind ≡ kind_at bs at → kind ≡ 3 → 2 ≤ n
+group_two {bs} {at} m ek three =
+    let v = group_view m.tree bs at m.inside.stand (sym ek ∙ three) in
     let e : places m.tree ≡ 2 + places v.inner = ap places v.is in
-    omega (arith, m.places-are)
+    omega (arith, m.places_are)
 
 -- a group is one itself
-pub group-some : {bs : List ℕ} {at stop base next first n gs kind : ℕ} → One bs at stop base next first n gs → kind ≡ kind_at bs at → kind ≡ 3 → 1 ≤ gs
-group-some {bs} {at} m ek three =
-    let v = group-view m.tree bs at m.inside.stand (sym ek ∙ three) in
+pub group_some : {bs : List ℕ} {at stop base next first n gs kind : ℕ} → One bs at stop base next first n gs → kind ≡ kind_at bs at → kind ≡ 3 → 1 ≤ gs
+group_some {bs} {at} m ek three =
+    let v = group_view m.tree bs at m.inside.stand (sym ek ∙ three) in
     let f : groups m.tree ≡ suc (groups v.inner) = ap groups v.is in
-    omega (arith, m.groups-are)
+    omega (arith, m.groups_are)
 
 -- a group, from its places
-pub captures-lays : (t bs : List ℕ) (k : ℕ) (e : Core) (base next p : ℕ) → p ≡ size e → Holds t bs base (opening k (entry_of p (base + 1) (base + 1 + p)))
+pub captures_lays : (t bs : List ℕ) (k : ℕ) (e : Core) (base next p : ℕ) → p ≡ size e → Holds t bs base (opening k (entry_of p (base + 1) (base + 1 + p)))
     → Lays t bs e (base + 1) (base + 1 + p) → Holds t bs (base + 1 + p) (closing k next) → Lays t bs (captures k e) base next
-captures-lays t bs k e base next p ep =
+captures_lays t bs k e base next p ep =
     subst
     (λ (p : ℕ). Holds t bs base (opening k (entry_of p (base + 1) (base + 1 + p))) → Lays t bs e (base + 1) (base + 1 + p)
     → Holds t bs (base + 1 + p) (closing k next) → Lays t bs (captures k e) base next)
@@ -123,29 +123,29 @@ captures-lays t bs k e base next p ep =
     (λ a b c. (a, b, c))
 
 -- the open, what the group holds and the close lay the group
-pub group-laid : {bs : List ℕ} {at stop base next first n gs kind : ℕ} {t t1 t2 : List ℕ} → One bs at stop base next first n gs → kind ≡ kind_at bs at
+pub group_laid : {bs : List ℕ} {at stop base next first n gs kind : ℕ} {t t1 t2 : List ℕ} → One bs at stop base next first n gs → kind ≡ kind_at bs at
     → kind ≡ 3 → HeadLaid bs (at + 4) stop 1 first 0 base (base + 1 + (n - 2)) (first + 1) (n - 2) (gs - 1) t t1
     → Put t1 (base + 1 + (n - 2)) 2 next first 0 t2 → OneLaid bs at stop base next first n gs t t2
-group-laid {bs} {at} {stop} {base} {next} {first} {n} {t2 = t2} m0 ek three h put =
+group_laid {bs} {at} {stop} {base} {next} {first} {n} {t2 = t2} m0 ek three h put =
     record {
-      kept = kept-both base (base + n) h.kept put.kept (omega arith) (omega (arith, group-two m0 ek three)) (omega arith)
-          (omega (arith, group-two m0 ek three));
+      kept = kept_both base (base + n) h.kept put.kept (omega arith) (omega (arith, group_two m0 ek three)) (omega arith)
+          (omega (arith, group_two m0 ek three));
       laid = λ m.
-          let o = group-one m ek three in
-          let v = group-view m.tree bs at m.inside.stand (sym ek ∙ three) in
-          let e = writtenOut v.inner (first + 1) in
-          let ep : n - 2 ≡ size e = o.places-are ∙ sym (size-written v.inner (first + 1)) in
-          as-tree t2 bs first base next v.is
-          (subst (λ (k : ℕ). Lays t2 bs (captures first (writtenOut v.inner k)) base next) (add-one first)
-          (captures-lays t2 bs first e base next (n - 2) ep (holds_kept put.kept (omega arith) h.head)
-          (lays-kept e bs (base + 1) (base + 1 + (n - 2)) put.kept (omega arith) (h.laid o)) (plain-holds bs put (omega arith))));
+          let o = group_one m ek three in
+          let v = group_view m.tree bs at m.inside.stand (sym ek ∙ three) in
+          let e = written_out v.inner (first + 1) in
+          let ep : n - 2 ≡ size e = o.places_are ∙ sym (size_written v.inner (first + 1)) in
+          as_tree t2 bs first base next v.is
+          (subst (λ (k : ℕ). Lays t2 bs (captures first (written_out v.inner k)) base next) (add-one first)
+          (captures_lays t2 bs first e base next (n - 2) ep (holds_kept put.kept (omega arith) h.head)
+          (lays_kept e bs (base + 1) (base + 1 + (n - 2)) put.kept (omega arith) (h.laid o)) (plain_holds bs put (omega arith))));
     }
 
 -- a repeat
-abbrev pub repeat-ask : {bs : List ℕ} {at stop base next first n gs kind : ℕ} → One bs at stop base next first n gs → (n ≡ 0 → ⊥) → kind ≡ kind_at bs at
+abbrev pub repeat_ask : {bs : List ℕ} {at stop base next first n gs kind : ℕ} → One bs at stop base next first n gs → (n ≡ 0 → ⊥) → kind ≡ kind_at bs at
     → kind ≡ 6 → Repeat bs (at + 4) stop base next first n gs
-repeat-ask {bs} {at} m some ek six =
-    let v = repeat-view m.tree bs at m.inside.stand (sym ek ∙ six) in
+repeat_ask {bs} {at} m some ek six =
+    let v = repeat_view m.tree bs at m.inside.stand (sym ek ∙ six) in
     let f : groups m.tree ≡ groups v.inner = ap groups v.is in
     record {
       least = v.least;
@@ -160,8 +160,8 @@ repeat-ask {bs} {at} m some ek six =
         short = m.inside.short;
         few = omega (arith, m.inside.few);
       };
-      places-are = m.places-are ∙ ap places v.is;
-      groups-are = m.groups-are ∙ f;
+      places_are = m.places_are ∙ ap places v.is;
+      groups_are = m.groups_are ∙ f;
       some = some;
       small = m.small;
       room = m.room;
@@ -169,12 +169,12 @@ repeat-ask {bs} {at} m some ek six =
     }
 
 -- a repeat is laid by its passes
-pub repeat-laid : {bs : List ℕ} {at stop base next first n gs kind : ℕ} {t t' : List ℕ} → (n ≡ 0 → ⊥) → kind ≡ kind_at bs at → kind ≡ 6
+pub repeat_laid : {bs : List ℕ} {at stop base next first n gs kind : ℕ} {t t' : List ℕ} → (n ≡ 0 → ⊥) → kind ≡ kind_at bs at → kind ≡ 6
     → RepeatLaid bs (at + 4) stop base next first n gs t t' → OneLaid bs at stop base next first n gs t t'
-repeat-laid {bs} {at} {base = base} {next = next} {first = first} {t' = t'} some ek six r =
+repeat_laid {bs} {at} {base = base} {next = next} {first = first} {t' = t'} some ek six r =
     record {
       kept = r.kept;
-      laid = λ m. as-tree t' bs first base next (repeat-view m.tree bs at m.inside.stand (sym ek ∙ six)).is (r.laid (repeat-ask m some ek six));
+      laid = λ m. as_tree t' bs first base next (repeat_view m.tree bs at m.inside.stand (sym ek ∙ six)).is (r.laid (repeat_ask m some ek six));
     }
 
 -- a sequence or an alternation: any other record that has places
@@ -184,22 +184,22 @@ module _ {bs : List ℕ} {at stop base next first n gs kind : ℕ} (some : n ≡
   pub row_of : (m : One bs at stop base next first n gs) → RowView bs at (eqb kind 5) m.tree
   row_of m =
       subst (λ (k : ℕ). RowView bs at (eqb k 5) m.tree) (sym ek)
-      (row-view m.tree bs at m.inside.stand (λ e. some (m.places-are ∙ e)) (λ e. k0 (ek ∙ e)) (λ e. k2 (ek ∙ e)) (λ e. k3 (ek ∙ e))
+      (row_view m.tree bs at m.inside.stand (λ e. some (m.places_are ∙ e)) (λ e. k0 (ek ∙ e)) (λ e. k2 (ek ∙ e)) (λ e. k3 (ek ∙ e))
       (λ e. k6 (ek ∙ e)))
 
   -- what the row of them is asked for
-  abbrev pub row-ask : One bs at stop base next first n gs → Several bs (at + 4) stop (eqb kind 5) base next first n gs
-  row-ask m =
+  abbrev pub row_ask : One bs at stop base next first n gs → Several bs (at + 4) stop (eqb kind 5) base next first n gs
+  row_ask m =
       let v = row_of m in
       record {
         records = v.records;
         stand = subst (λ (e : ℕ). Row bs (at + 4) e v.records) m.inside.end_is v.stand;
-        some = omega (arith, row-long v.records bs (at + 4) (bodyEnd bs at) v.stand, v.several, m.inside.end_is);
+        some = omega (arith, row_long v.records bs (at + 4) (body_end bs at) v.stand, v.several, m.inside.end_is);
         ends = m.inside.ends;
         short = m.inside.short;
-        few = omega (arith, m.inside.few, v.groups-are);
-        places-are = m.places-are ∙ v.places-are;
-        groups-are = m.groups-are ∙ v.groups-are;
+        few = omega (arith, m.inside.few, v.groups_are);
+        places_are = m.places_are ∙ v.places_are;
+        groups_are = m.groups_are ∙ v.groups_are;
         small = m.small;
         room = m.room;
         follows = m.follows;
@@ -208,25 +208,25 @@ module _ {bs : List ℕ} {at stop base next first n gs kind : ℕ} (some : n ≡
   -- the row lays the record
   pub row_laid : {t t' : List ℕ} → SeveralLaid bs (at + 4) stop (eqb kind 5) base next first n gs t t' → OneLaid bs at stop base next first n gs t t'
   row_laid {t' = t'} r =
-      record { kept = r.kept; laid = λ m. subst (λ (c : Core). Lays t' bs c base next) (sym ((row_of m).written first)) (r.laid (row-ask m)) }
+      record { kept = r.kept; laid = λ m. subst (λ (c : Core). Lays t' bs c base next) (sym ((row_of m).written first)) (r.laid (row_ask m)) }
 
 -- a head and the expression behind it
-pub head-one : {bs : List ℕ} {at stop kind a n base next first p g v : ℕ} {t t1 t2 : List ℕ} → v ≡ entry_of p (base + 1) next → Head kind a n
+pub head_one : {bs : List ℕ} {at stop kind a n base next first p g v : ℕ} {t t1 t2 : List ℕ} → v ≡ entry_of p (base + 1) next → Head kind a n
     → Put t base kind v a n t1 → OneLaid bs at stop (base + 1) next first p g t1 t2 → HeadLaid bs at stop kind a n base next first p g t t2
-head-one {bs} {base = base} {p = p} ev h put one =
+head_one {bs} {base = base} {p = p} ev h put one =
     record {
-      kept = kept-both base (base + 1 + p) put.kept one.kept (omega arith) (omega arith) (omega arith) (omega arith);
-      head = holds_kept one.kept (omega arith) (head-stands bs ev h put);
+      kept = kept_both base (base + 1 + p) put.kept one.kept (omega arith) (omega arith) (omega arith) (omega arith);
+      head = holds_kept one.kept (omega arith) (head_stands bs ev h put);
       laid = one.laid;
     }
 
 -- the numbers of a head fit
-pub head-fits : {bs t : List ℕ} {at stop base next first p g kind a n v : ℕ} → One bs at stop (base + 1) next first p g → Head kind a n → 2040 ≤ length t
+pub head_fits : {bs t : List ℕ} {at stop base next first p g kind a n v : ℕ} → One bs at stop (base + 1) next first p g → Head kind a n → 2040 ≤ length t
     → v ≡ entry_of p (base + 1) next → Fitting t base v a n
-head-fits {base = base} {next = next} {p = p} m h room ev =
+head_fits {base = base} {next = next} {p = p} m h room ev =
     record {
       room = omega (arith, m.room);
-      next_fits = omega (arith, ev, entry-small p (base + 1) next {most = 65535} (omega (arith, m.room)) (omega (arith, m.follows)));
-      a-fits = omega (arith, h.a_small);
-      n-fits = omega (arith, h.n-small);
+      next_fits = omega (arith, ev, entry_small p (base + 1) next {most = 65535} (omega (arith, m.room)) (omega (arith, m.follows)));
+      a_fits = omega (arith, h.a_small);
+      n_fits = omega (arith, h.n_small);
     }

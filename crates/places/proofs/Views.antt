@@ -8,13 +8,13 @@ use lib.Dec.{eqb}
 use lib.ListN.{length}
 use Rattle.paper.specs.Pattern.{Mode, Upper, Range, Pattern, places, groups}
 use Rattle.paper.specs.Pattern.Pattern.{nothing, empty, bytes, group, sequence, alternation, repeat}
-use Rattle.paper.specs.Check.{bodyEnd, bodyStart, kind_at, repeatHead}
-use Rattle.paper.specs.Machine.{writtenOut}
+use Rattle.paper.specs.Check.{body_end, body_start, kind_at, repeat_head}
+use Rattle.paper.specs.Machine.{written_out}
 use Rattle.paper.proofs.layout.MemberList.{list_of}
-use Rattle.pattern.specs.Walk.{groupsIn}
-use Rattle.places.specs.Standing.{Pairs, Passes, Stands, Row, rowPlaces, rowCore}
-use Rattle.places.proofs.Adding.{members-row, members-places, members-groups, members-count, members-two}
-use Rattle.places.proofs.Sizes.{row_chained, row-forked}
+use Rattle.pattern.specs.Walk.{groups_in}
+use Rattle.places.specs.Standing.{Pairs, Passes, Stands, Row, row_places, row_core}
+use Rattle.places.proofs.Adding.{members_row, members_places, members_groups, members_count, members_two}
+use Rattle.places.proofs.Sizes.{row_chained, row_forked}
 
 -- a byte set, and its pairs
 pub record SetView (bs : List ℕ) (at : ℕ) (e : Pattern) : Type 0 where
@@ -26,8 +26,8 @@ pub record SetView (bs : List ℕ) (at : ℕ) (e : Pattern) : Type 0 where
 pub record GroupView (bs : List ℕ) (at : ℕ) (e : Pattern) : Type 0 where
   pub inner : Pattern
   pub is : e ≡ group inner
-  pub stand : Stands bs (bodyStart at) inner
-  pub end_is : bodyEnd bs (bodyStart at) ≡ bodyEnd bs at
+  pub stand : Stands bs (body_start at) inner
+  pub end_is : body_end bs (body_start at) ≡ body_end bs at
 
 -- a repeat, its numbers and the record inside
 pub record RepeatView (bs : List ℕ) (at : ℕ) (e : Pattern) : Type 0 where
@@ -36,28 +36,28 @@ pub record RepeatView (bs : List ℕ) (at : ℕ) (e : Pattern) : Type 0 where
   pub mode : Mode
   pub inner : Pattern
   pub is : e ≡ repeat least upper mode inner
-  pub numbers : Passes bs (bodyStart at) least upper mode
-  pub stand : Stands bs (bodyStart at + repeatHead) inner
-  pub end_is : bodyEnd bs (bodyStart at + repeatHead) ≡ bodyEnd bs at
+  pub numbers : Passes bs (body_start at) least upper mode
+  pub stand : Stands bs (body_start at + repeat_head) inner
+  pub end_is : body_end bs (body_start at + repeat_head) ≡ body_end bs at
 
 -- a sequence or an alternation, and its members as a row
 pub record RowView (bs : List ℕ) (at : ℕ) (forks : Bool) (e : Pattern) : Type 0 where
   pub records : List Pattern
-  pub written : (first : ℕ) → writtenOut e first ≡ rowCore forks records first
-  pub stand : Row bs (bodyStart at) (bodyEnd bs at) records
+  pub written : (first : ℕ) → written_out e first ≡ row_core forks records first
+  pub stand : Row bs (body_start at) (body_end bs at) records
   pub several : 2 ≤ length records
-  pub places-are : places e ≡ rowPlaces forks records
-  pub groups-are : groups e ≡ groupsIn records
+  pub places_are : places e ≡ row_places forks records
+  pub groups_are : groups e ≡ groups_in records
 
 -- kind 0
-pub nothing-view : (e : Pattern) (bs : List ℕ) (at : ℕ) → Stands bs at e → kind_at bs at ≡ 0 → e ≡ nothing
-nothing-view nothing bs at h k = refl
-nothing-view empty bs at h k = absurd (omega (arith, h))
-nothing-view (bytes ranges) bs at h k = absurd (omega (arith, h.0))
-nothing-view (group e) bs at h k = absurd (omega (arith, h.0))
-nothing-view (sequence ms) bs at h k = absurd (omega (arith, h.0))
-nothing-view (alternation ms) bs at h k = absurd (omega (arith, h.0))
-nothing-view (repeat least upper mode e) bs at h k = absurd (omega (arith, h.0))
+pub nothing_view : (e : Pattern) (bs : List ℕ) (at : ℕ) → Stands bs at e → kind_at bs at ≡ 0 → e ≡ nothing
+nothing_view nothing bs at h k = refl
+nothing_view empty bs at h k = absurd (omega (arith, h))
+nothing_view (bytes ranges) bs at h k = absurd (omega (arith, h.0))
+nothing_view (group e) bs at h k = absurd (omega (arith, h.0))
+nothing_view (sequence ms) bs at h k = absurd (omega (arith, h.0))
+nothing_view (alternation ms) bs at h k = absurd (omega (arith, h.0))
+nothing_view (repeat least upper mode e) bs at h k = absurd (omega (arith, h.0))
 
 -- kind 2
 pub set_view : (e : Pattern) (bs : List ℕ) (at : ℕ) → Stands bs at e → kind_at bs at ≡ 2 → SetView bs at e
@@ -70,48 +70,48 @@ set_view (alternation ms) bs at h k = absurd (omega (arith, h.0))
 set_view (repeat least upper mode e) bs at h k = absurd (omega (arith, h.0))
 
 -- kind 3
-pub group-view : (e : Pattern) (bs : List ℕ) (at : ℕ) → Stands bs at e → kind_at bs at ≡ 3 → GroupView bs at e
-group-view nothing bs at h k = absurd (omega (arith, h))
-group-view empty bs at h k = absurd (omega (arith, h))
-group-view (bytes ranges) bs at h k = absurd (omega (arith, h.0))
-group-view (group e) bs at h k = record { inner = e; is = refl; stand = h.1; end_is = h.2 }
-group-view (sequence ms) bs at h k = absurd (omega (arith, h.0))
-group-view (alternation ms) bs at h k = absurd (omega (arith, h.0))
-group-view (repeat least upper mode e) bs at h k = absurd (omega (arith, h.0))
+pub group_view : (e : Pattern) (bs : List ℕ) (at : ℕ) → Stands bs at e → kind_at bs at ≡ 3 → GroupView bs at e
+group_view nothing bs at h k = absurd (omega (arith, h))
+group_view empty bs at h k = absurd (omega (arith, h))
+group_view (bytes ranges) bs at h k = absurd (omega (arith, h.0))
+group_view (group e) bs at h k = record { inner = e; is = refl; stand = h.1; end_is = h.2 }
+group_view (sequence ms) bs at h k = absurd (omega (arith, h.0))
+group_view (alternation ms) bs at h k = absurd (omega (arith, h.0))
+group_view (repeat least upper mode e) bs at h k = absurd (omega (arith, h.0))
 
 -- kind 6
-pub repeat-view : (e : Pattern) (bs : List ℕ) (at : ℕ) → Stands bs at e → kind_at bs at ≡ 6 → RepeatView bs at e
-repeat-view nothing bs at h k = absurd (omega (arith, h))
-repeat-view empty bs at h k = absurd (omega (arith, h))
-repeat-view (bytes ranges) bs at h k = absurd (omega (arith, h.0))
-repeat-view (group e) bs at h k = absurd (omega (arith, h.0))
-repeat-view (sequence ms) bs at h k = absurd (omega (arith, h.0))
-repeat-view (alternation ms) bs at h k = absurd (omega (arith, h.0))
-repeat-view (repeat least upper mode e) bs at h k = record { least = least; upper = upper; mode = mode; inner = e; is = refl; numbers = h.1; stand = h.2; end_is = h.3 }
+pub repeat_view : (e : Pattern) (bs : List ℕ) (at : ℕ) → Stands bs at e → kind_at bs at ≡ 6 → RepeatView bs at e
+repeat_view nothing bs at h k = absurd (omega (arith, h))
+repeat_view empty bs at h k = absurd (omega (arith, h))
+repeat_view (bytes ranges) bs at h k = absurd (omega (arith, h.0))
+repeat_view (group e) bs at h k = absurd (omega (arith, h.0))
+repeat_view (sequence ms) bs at h k = absurd (omega (arith, h.0))
+repeat_view (alternation ms) bs at h k = absurd (omega (arith, h.0))
+repeat_view (repeat least upper mode e) bs at h k = record { least = least; upper = upper; mode = mode; inner = e; is = refl; numbers = h.1; stand = h.2; end_is = h.3 }
 
 -- a record with places that is none of those is a sequence or an alternation
-pub row-view : (e : Pattern) (bs : List ℕ) (at : ℕ) → Stands bs at e → (places e ≡ 0 → ⊥) → (kind_at bs at ≡ 0 → ⊥) → (kind_at bs at ≡ 2 → ⊥)
+pub row_view : (e : Pattern) (bs : List ℕ) (at : ℕ) → Stands bs at e → (places e ≡ 0 → ⊥) → (kind_at bs at ≡ 0 → ⊥) → (kind_at bs at ≡ 2 → ⊥)
     → (kind_at bs at ≡ 3 → ⊥) → (kind_at bs at ≡ 6 → ⊥) → RowView bs at (eqb (kind_at bs at) 5) e
-row-view nothing bs at h some k0 k2 k3 k6 = absurd (k0 h)
-row-view empty bs at h some k0 k2 k3 k6 = absurd (some refl)
-row-view (bytes ranges) bs at h some k0 k2 k3 k6 = absurd (k2 h.0)
-row-view (group e) bs at h some k0 k2 k3 k6 = absurd (k3 h.0)
-row-view (sequence ms) bs at h some k0 k2 k3 k6 =
+row_view nothing bs at h some k0 k2 k3 k6 = absurd (k0 h)
+row_view empty bs at h some k0 k2 k3 k6 = absurd (some refl)
+row_view (bytes ranges) bs at h some k0 k2 k3 k6 = absurd (k2 h.0)
+row_view (group e) bs at h some k0 k2 k3 k6 = absurd (k3 h.0)
+row_view (sequence ms) bs at h some k0 k2 k3 k6 =
     subst (λ (k : ℕ). RowView bs at (eqb k 5) (sequence ms)) (sym h.0) (record {
       records = list_of ms;
       written = λ first. sym (row_chained ms first);
-      stand = members-row ms bs _ _ h.1;
-      several = members-two ms;
-      places-are = sym (members-places ms);
-      groups-are = sym (members-groups ms);
+      stand = members_row ms bs _ _ h.1;
+      several = members_two ms;
+      places_are = sym (members_places ms);
+      groups_are = sym (members_groups ms);
     })
-row-view (alternation ms) bs at h some k0 k2 k3 k6 =
+row_view (alternation ms) bs at h some k0 k2 k3 k6 =
     subst (λ (k : ℕ). RowView bs at (eqb k 5) (alternation ms)) (sym h.0) (record {
       records = list_of ms;
-      written = λ first. sym (row-forked ms first);
-      stand = members-row ms bs _ _ h.1;
-      several = members-two ms;
-      places-are = omega (arith, members-places ms, members-count ms);
-      groups-are = sym (members-groups ms);
+      written = λ first. sym (row_forked ms first);
+      stand = members_row ms bs _ _ h.1;
+      several = members_two ms;
+      places_are = omega (arith, members_places ms, members_count ms);
+      groups_are = sym (members_groups ms);
     })
-row-view (repeat least upper mode e) bs at h some k0 k2 k3 k6 = absurd (k6 h.0)
+row_view (repeat least upper mode e) bs at h some k0 k2 k3 k6 = absurd (k6 h.0)

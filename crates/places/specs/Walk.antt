@@ -1,41 +1,41 @@
 -- What laying records asks and leaves behind. Each promise holds for every tree that meets what was asked, so no promise names a tree of its own.
 use Rattle.std.specs.Prelude.{ℕ, ◌+◌, ◌≤◌, ◌<◌, ◌≡◌, Bool, List, length}
-use Rattle.paper.specs.Limits.{patternBytes, patternPlaces, rowCount}
-use Rattle.paper.specs.Pattern.{Mode, Upper, Pattern, places, groups, repeatPlaces}
-use Rattle.paper.specs.Check.{bodyEnd, repeatHead}
-use Rattle.paper.specs.Machine.{writtenOut}
+use Rattle.paper.specs.Limits.{pattern_bytes, pattern_places, row_count}
+use Rattle.paper.specs.Pattern.{Mode, Upper, Pattern, places, groups, repeat_places}
+use Rattle.paper.specs.Check.{body_end, repeat_head}
+use Rattle.paper.specs.Machine.{written_out}
 use Rattle.paper.specs.Tables.{place_of}
-use Rattle.pattern.specs.Walk.{groupsIn}
+use Rattle.pattern.specs.Walk.{groups_in}
 use Rattle.laying.specs.Laid.{Holds, Kept, entry_of, Lays}
-use Rattle.laying.specs.Room.{mostPlaces}
-use Rattle.places.specs.Standing.{Passes, Stands, Row, rowPlaces, rowCore}
+use Rattle.laying.specs.Room.{most_places}
+use Rattle.places.specs.Standing.{Passes, Stands, Row, row_places, row_core}
 
 -- the record of a tree stands from an offset up to `stop`, its first group being number `first`
 pub record Inside (bs : List ℕ) (at stop first : ℕ) (e : Pattern) : Type 0 where
   pub stand : Stands bs at e
-  pub end_is : bodyEnd bs at ≡ stop
+  pub end_is : body_end bs at ≡ stop
   pub ends : stop ≤ length bs
-  pub short : length bs ≤ patternBytes
-  pub few : first + groups e ≤ rowCount
+  pub short : length bs ≤ pattern_bytes
+  pub few : first + groups e ≤ row_count
 
 -- `one`: a record that has so many places and groups, and room for the places
 pub record One (bs : List ℕ) (at stop base next first n g : ℕ) : Type 0 where
   pub tree : Pattern
   pub inside : Inside bs at stop first tree
-  pub places-are : n ≡ places tree
-  pub groups-are : g ≡ groups tree
-  pub small : n ≤ patternPlaces
-  pub room : base + n ≤ mostPlaces
-  pub follows : next ≤ mostPlaces
+  pub places_are : n ≡ places tree
+  pub groups_are : g ≡ groups tree
+  pub small : n ≤ pattern_places
+  pub room : base + n ≤ most_places
+  pub follows : next ≤ most_places
 
 pub record OneLaid (bs : List ℕ) (at stop base next first n g : ℕ) (before after : List ℕ) : Type 0 where
   pub kept : Kept base (base + n) before after
-  pub laid : (m : One bs at stop base next first n g) → Lays after bs (writtenOut m.tree first) base next
+  pub laid : (m : One bs at stop base next first n g) → Lays after bs (written_out m.tree first) base next
 
 pub record HeadLaid (bs : List ℕ) (at stop kind a n base next first p g : ℕ) (before after : List ℕ) : Type 0 where
   pub kept : Kept base (base + 1 + p) before after
   pub head : Holds after bs base (place_of bs kind (entry_of p (base + 1) next) a n)
-  pub laid : (m : One bs at stop (base + 1) next first p g) → Lays after bs (writtenOut m.tree first) (base + 1) next
+  pub laid : (m : One bs at stop (base + 1) next first p g) → Lays after bs (written_out m.tree first) (base + 1) next
 
 -- `row`: at least one record, and room for all
 pub record Several (bs : List ℕ) (at stop : ℕ) (forks : Bool) (base next first n g : ℕ) : Type 0 where
@@ -43,17 +43,17 @@ pub record Several (bs : List ℕ) (at stop : ℕ) (forks : Bool) (base next fir
   pub stand : Row bs at stop records
   pub some : at < stop
   pub ends : stop ≤ length bs
-  pub short : length bs ≤ patternBytes
-  pub few : first + groupsIn records ≤ rowCount
-  pub places-are : n ≡ rowPlaces forks records
-  pub groups-are : g ≡ groupsIn records
-  pub small : n ≤ patternPlaces
-  pub room : base + n ≤ mostPlaces
-  pub follows : next ≤ mostPlaces
+  pub short : length bs ≤ pattern_bytes
+  pub few : first + groups_in records ≤ row_count
+  pub places_are : n ≡ row_places forks records
+  pub groups_are : g ≡ groups_in records
+  pub small : n ≤ pattern_places
+  pub room : base + n ≤ most_places
+  pub follows : next ≤ most_places
 
 pub record SeveralLaid (bs : List ℕ) (at stop : ℕ) (forks : Bool) (base next first n g : ℕ) (before after : List ℕ) : Type 0 where
   pub kept : Kept base (base + n) before after
-  pub laid : (m : Several bs at stop forks base next first n g) → Lays after bs (rowCore forks m.records first) base next
+  pub laid : (m : Several bs at stop forks base next first n g) → Lays after bs (row_core forks m.records first) base next
 
 -- `repeated`: a repeat's three numbers, what it repeats, and its places and groups
 pub record Repeat (bs : List ℕ) (start stop base next first n g : ℕ) : Type 0 where
@@ -62,15 +62,15 @@ pub record Repeat (bs : List ℕ) (start stop base next first n g : ℕ) : Type 
   pub mode : Mode
   pub tree : Pattern
   pub numbers : Passes bs start least upper mode
-  pub inside : Inside bs (start + repeatHead) stop first tree
-  pub places-are : n ≡ repeatPlaces least upper (places tree)
-  pub groups-are : g ≡ groups tree
+  pub inside : Inside bs (start + repeat_head) stop first tree
+  pub places_are : n ≡ repeat_places least upper (places tree)
+  pub groups_are : g ≡ groups tree
   pub some : n ≡ 0 → ⊥
-  pub small : n ≤ patternPlaces
-  pub room : base + n ≤ mostPlaces
-  pub follows : next ≤ mostPlaces
+  pub small : n ≤ pattern_places
+  pub room : base + n ≤ most_places
+  pub follows : next ≤ most_places
 
 pub record RepeatLaid (bs : List ℕ) (start stop base next first n g : ℕ) (before after : List ℕ) : Type 0 where
   pub kept : Kept base (base + n) before after
   pub laid : (m : Repeat bs start stop base next first n g)
-      → Lays after bs (writtenOut (Pattern.repeat m.least m.upper m.mode m.tree) first) base next
+      → Lays after bs (written_out (Pattern.repeat m.least m.upper m.mode m.tree) first) base next

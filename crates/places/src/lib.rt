@@ -4,7 +4,7 @@ mod sums;
 mod walk;
 
 ghost use Rattle.std.specs.Prelude.{◌≤◌, length};
-ghost use Rattle.laying.specs.Room.{tableRoom};
+ghost use Rattle.laying.specs.Room.{table_room};
 ghost use Rattle.places.specs.Built.{Accepted, BuiltMatch, BuiltSearch};
 
 use laying::{any_star, put};
@@ -14,7 +14,7 @@ use walk::{Part, headed, one};
 // Builds an accepted pattern's places for a whole match, and answers how many they are. Checking has told the pattern's own places and its groups.
 pub fn build_match(pattern: &[u8], table: &mut [u16], places: usize, groups: usize) -> usize
     requires accepted { Accepted pattern.now places groups }
-    requires table_room_in_bounds { tableRoom ≤ length table.old }
+    requires table_room_in_bounds { table_room ≤ length table.old }
     ensures { BuiltMatch pattern.now table.old table.new result }
 {
     let part = Part {
@@ -32,7 +32,7 @@ pub fn build_match(pattern: &[u8], table: &mut [u16], places: usize, groups: usi
 // Builds an accepted pattern's places for a search, with those of the wrap around it, and answers how many they are.
 pub fn build_search(pattern: &[u8], table: &mut [u16], places: usize, groups: usize) -> usize
     requires accepted { Accepted pattern.now places groups }
-    requires table_room_in_bounds { tableRoom ≤ length table.old }
+    requires table_room_in_bounds { table_room ≤ length table.old }
     ensures { BuiltSearch pattern.now table.old table.new result }
 {
     let close = 5 + places;

@@ -1,8 +1,8 @@
 // What records that stand one after another add up to: their places, their groups and how many they are.
 ghost use Rattle.std.specs.Prelude.{◌≡◌, ◌+◌, ◌*◌, ◌≤◌};
-ghost use Rattle.paper.specs.Limits.{patternBytes, rowCount};
-ghost use Rattle.paper.specs.Check.{bodyEnd};
-ghost use Rattle.places.specs.Sums.{mostOwn, insideStart, ownPlaces, OwnPlaces, ownGroups, Counting, Counted};
+ghost use Rattle.paper.specs.Limits.{pattern_bytes, row_count};
+ghost use Rattle.paper.specs.Check.{body_end};
+ghost use Rattle.places.specs.Sums.{most_own, inside_start, own_places, OwnPlaces, own_groups, Counting, Counted};
 
 use pattern::{Kind, counts};
 use records::number_at;
@@ -17,8 +17,8 @@ pub struct Sums {
 
 // Where the records inside a record start: at its end where its kind has none inside.
 fn inside_start(kind: usize, start: usize, end: usize) -> usize
-    requires { start ≤ 2 * patternBytes }
-    ensures { result ≡ insideStart kind start end }
+    requires { start ≤ 2 * pattern_bytes }
+    ensures { result ≡ inside_start kind start end }
 {
     if kind < Kind::GROUP {
         end
@@ -32,7 +32,7 @@ fn inside_start(kind: usize, start: usize, end: usize) -> usize
 // The places of a record by its kind and what the records inside it add up to.
 fn own_places(pattern: &[u8], kind: usize, start: usize, places: usize, records: usize) -> usize
     requires { OwnPlaces pattern.now kind start places records }
-    ensures { (result ≡ ownPlaces pattern.now kind start places records) × (result ≤ mostOwn) }
+    ensures { (result ≡ own_places pattern.now kind start places records) × (result ≤ most_own) }
 {
     if kind < Kind::GROUP {
         return if kind == Kind::EMPTY { 0 } else { 1 };
@@ -53,8 +53,8 @@ fn own_places(pattern: &[u8], kind: usize, start: usize, places: usize, records:
 
 // The groups of a record by its kind and those inside it.
 fn own_groups(kind: usize, groups: usize) -> usize
-    requires { groups ≤ rowCount }
-    ensures { (result ≡ ownGroups kind groups) × (result ≤ rowCount + 1) }
+    requires { groups ≤ row_count }
+    ensures { (result ≡ own_groups kind groups) × (result ≤ row_count + 1) }
 {
     if kind == Kind::GROUP {
         groups + 1
@@ -110,7 +110,7 @@ fn counted(pattern: &[u8], at: usize, stop: usize) -> Sums
 // What one record adds up to, without a call of `count` where it has no records inside.
 pub fn alone(pattern: &[u8], at: usize, stop: usize) -> Sums
     requires counting { Counting pattern.now at stop }
-    requires at_value { bodyEnd pattern.now at ≡ stop }
+    requires at_value { body_end pattern.now at ≡ stop }
     ensures { Counted pattern.now at stop result.places result.groups result.records }
 {
     let kind = number_at(pattern, at + 2);

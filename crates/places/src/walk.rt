@@ -1,8 +1,8 @@
 // The walk over the records of a pattern: each is laid by its kind, outer before inner and left to right.
 ghost use Rattle.std.specs.Prelude.{◌≡◌, true, false, ◌+◌, ◌≤◌, length};
-ghost use Rattle.paper.specs.Limits.{patternBytes};
-ghost use Rattle.paper.specs.Check.{bodyEnd};
-ghost use Rattle.laying.specs.Room.{tableRoom};
+ghost use Rattle.paper.specs.Limits.{pattern_bytes};
+ghost use Rattle.paper.specs.Check.{body_end};
+ghost use Rattle.laying.specs.Room.{table_room};
 ghost use Rattle.laying.specs.Single.{Head};
 ghost use Rattle.places.specs.Walk.{One, OneLaid, HeadLaid, Several, SeveralLaid, Repeat, RepeatLaid};
 
@@ -25,8 +25,8 @@ pub struct Part {
 // Where the record at an offset ends.
 fn record_end(pattern: &[u8], at: usize) -> usize
     requires at_in_bounds { at + 4 ≤ length pattern.now }
-    requires pattern_len_bound { length pattern.now ≤ patternBytes }
-    ensures { result ≡ bodyEnd pattern.now at }
+    requires pattern_len_bound { length pattern.now ≤ pattern_bytes }
+    ensures { result ≡ body_end pattern.now at }
 {
     at + 4 + number_at(pattern, at)
 }
@@ -45,7 +45,7 @@ pub fn headed(
 )
     requires one { One pattern.now part.at part.stop (base + 1) next part.first part.places part.groups }
     requires head { Head kind a n }
-    requires table_room_in_bounds { tableRoom ≤ length table.old }
+    requires table_room_in_bounds { table_room ≤ length table.old }
     ensures { HeadLaid pattern.now part.at part.stop kind a n base next part.first part.places part.groups table.old table.new }
 {
     put(
@@ -63,7 +63,7 @@ pub fn headed(
 #[cycle(chained_forked_headed_one_repeated_row)]
 fn repeated(pattern: &[u8], table: &mut [u16], part: Part, base: usize, next: usize)
     requires repeat { Repeat pattern.now (part.at + 4) part.stop base next part.first part.places part.groups }
-    requires table_room_in_bounds { tableRoom ≤ length table.old }
+    requires table_room_in_bounds { table_room ≤ length table.old }
     ensures { RepeatLaid pattern.now (part.at + 4) part.stop base next part.first part.places part.groups table.old table.new }
 {
     let start = part.at + 4;
@@ -98,7 +98,7 @@ fn repeated(pattern: &[u8], table: &mut [u16], part: Part, base: usize, next: us
 #[cycle(chained_forked_headed_one_repeated_row)]
 pub fn one(pattern: &[u8], table: &mut [u16], part: Part, base: usize, next: usize)
     requires one { One pattern.now part.at part.stop base next part.first part.places part.groups }
-    requires table_room_in_bounds { tableRoom ≤ length table.old }
+    requires table_room_in_bounds { table_room ≤ length table.old }
     ensures { OneLaid pattern.now part.at part.stop base next part.first part.places part.groups table.old table.new }
 {
     let at = part.at;
@@ -150,7 +150,7 @@ pub fn one(pattern: &[u8], table: &mut [u16], part: Part, base: usize, next: usi
 #[cycle(chained_forked_headed_one_repeated_row)]
 fn row(pattern: &[u8], table: &mut [u16], part: Part, forks: bool, base: usize, next: usize)
     requires several { Several pattern.now part.at part.stop forks base next part.first part.places part.groups }
-    requires table_room_in_bounds { tableRoom ≤ length table.old }
+    requires table_room_in_bounds { table_room ≤ length table.old }
     ensures { SeveralLaid pattern.now part.at part.stop forks base next part.first part.places part.groups table.old table.new }
 {
     if forks {
@@ -164,7 +164,7 @@ fn row(pattern: &[u8], table: &mut [u16], part: Part, forks: bool, base: usize, 
 #[cycle(chained_forked_headed_one_repeated_row)]
 fn forked(pattern: &[u8], table: &mut [u16], part: Part, base: usize, next: usize)
     requires several { Several pattern.now part.at part.stop true base next part.first part.places part.groups }
-    requires table_room_in_bounds { tableRoom ≤ length table.old }
+    requires table_room_in_bounds { table_room ≤ length table.old }
     ensures { SeveralLaid pattern.now part.at part.stop true base next part.first part.places part.groups table.old table.new }
 {
     let stop = part.stop;
@@ -217,7 +217,7 @@ fn forked(pattern: &[u8], table: &mut [u16], part: Part, base: usize, next: usiz
 #[cycle(chained_forked_headed_one_repeated_row)]
 fn chained(pattern: &[u8], table: &mut [u16], part: Part, base: usize, next: usize)
     requires several { Several pattern.now part.at part.stop false base next part.first part.places part.groups }
-    requires table_room_in_bounds { tableRoom ≤ length table.old }
+    requires table_room_in_bounds { table_room ≤ length table.old }
     ensures { SeveralLaid pattern.now part.at part.stop false base next part.first part.places part.groups table.old table.new }
 {
     let stop = part.stop;

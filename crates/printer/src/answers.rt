@@ -1,6 +1,6 @@
 // The answers of the calls in words and numbers, as pick and replay print them.
 ghost use Rattle.std.specs.Prelude.{◌≤◌};
-ghost use Rattle.paper.specs.Limits.{rowCount};
+ghost use Rattle.paper.specs.Limits.{row_count};
 ghost use Rattle.printer.specs.Gathered.{Gathered};
 
 use crate::{bytes, decimal};
@@ -35,7 +35,7 @@ fn wide(x: u16) -> u64 {
 
 // Row 0 and a row for each group, as far as a table has them.
 fn row_count(groups: usize) -> usize
-    ensures { result ≤ rowCount }
+    ensures { result ≤ row_count }
 {
     if groups < Spans::ROWS {
         groups + 1

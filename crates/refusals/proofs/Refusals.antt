@@ -7,10 +7,10 @@ use mathlib.Core.Option.{none, some}
 use lib.ListN.{length, replicate}
 use Rattle.paper.specs.Refusal.{Checked, refused, accepted}
 use Rattle.paper.specs.Check.{Numbers, check}
-use Rattle.paper.specs.Match.{Found, matchCall, searchCall, tableAfter}
-use Rattle.paper.specs.Replace.{Replaced, replaceCall, replaceAnswer, bufferAfter}
-use Rattle.paper.specs.PieceCalls.{Span, fromTemplate, fromLine, pieceCall, partCall}
-use Rattle.paper.proofs.known.Known.{same, lent, filled, row1, manyB, dash, arrowAndRow1, abc}
+use Rattle.paper.specs.Match.{Found, match_call, search_call, table_after}
+use Rattle.paper.specs.Replace.{Replaced, replace_call, replace_answer, buffer_after}
+use Rattle.paper.specs.PieceCalls.{Span, fromTemplate, fromLine, piece_call, part_call}
+use Rattle.paper.proofs.known.Known.{same, lent, filled, row1, many_b, dash, arrow_and_row1, abc}
 
 -- what can be asked: a pattern's numbers; a match or a search in a line, into a table; replacements by a template, into a buffer; a template's piece, by its number
 pub data Question : Type 0 where
@@ -28,11 +28,11 @@ pub data Answer : Type 0 where
 
 abbrev pub answer : Question → Answer
 answer (checking pattern) = checked (check pattern)
-answer (matching pattern line table) = let a = matchCall pattern line table in found a (tableAfter a table)
-answer (searching pattern line table) = let a = searchCall pattern line table in found a (tableAfter a table)
+answer (matching pattern line table) = let a = match_call pattern line table in found a (table_after a table)
+answer (searching pattern line table) = let a = search_call pattern line table in found a (table_after a table)
 answer (replacing pattern template line buffer) =
-    let a = replaceCall pattern template line buffer in replaced (replaceAnswer a) (bufferAfter a buffer)
-answer (piecing template line table n) = let a = pieceCall template line table n in put a (partCall a template line)
+    let a = replace_call pattern template line buffer in replaced (replace_answer a) (buffer_after a buffer)
+answer (piecing template line table n) = let a = piece_call template line table n in put a (part_call a template line)
 
 -- a question and what is to be told
 pub record Case : Type 0 where
@@ -52,8 +52,8 @@ inside (suc n) holder bs = holder (inside n holder bs)
 abbrev group_of : List ℕ → List ℕ
 group_of bs = length bs ∷ 0 ∷ 3 ∷ 0 ∷ bs
 
-abbrev repeatOnce : List ℕ → List ℕ
-repeatOnce bs = (6 + length bs) ∷ 0 ∷ 6 ∷ 0 ∷ 1 ∷ 0 ∷ 1 ∷ 0 ∷ 0 ∷ 0 ∷ bs
+abbrev repeat_once : List ℕ → List ℕ
+repeat_once bs = (6 + length bs) ∷ 0 ∷ 6 ∷ 0 ∷ 1 ∷ 0 ∷ 1 ∷ 0 ∷ 0 ∷ 0 ∷ bs
 
 -- so many pairs of a set: every other byte
 abbrev evens : ℕ → ℕ → List ℕ
@@ -72,11 +72,11 @@ walk =
     -- inside its holder: an inner body that runs past the group, though not past the pattern
     ∷ (checking (12 ∷ 0 ∷ 4 ∷ 0 ∷ 4 ∷ 0 ∷ 3 ∷ 0 ∷ 1 ∷ 0 ∷ 1 ∷ 0 ∷ 0 ∷ 0 ∷ 1 ∷ 0 ∷ []) gives checked (refused 2 8))
     -- 2 before 6: a cut record on level 17
-    ∷ (checking (inside 16 repeatOnce (5 ∷ 0 ∷ 2 ∷ 0 ∷ [])) gives checked (refused 2 160))
+    ∷ (checking (inside 16 repeat_once (5 ∷ 0 ∷ 2 ∷ 0 ∷ [])) gives checked (refused 2 160))
     -- 3 before 6: an unknown kind on level 17
-    ∷ (checking (inside 16 repeatOnce (0 ∷ 0 ∷ 7 ∷ 0 ∷ [])) gives checked (refused 3 160))
+    ∷ (checking (inside 16 repeat_once (0 ∷ 0 ∷ 7 ∷ 0 ∷ [])) gives checked (refused 3 160))
     -- 6 before the body: a wrong set on level 17
-    ∷ (checking (inside 16 repeatOnce (2 ∷ 0 ∷ 2 ∷ 0 ∷ 98 ∷ 97 ∷ [])) gives checked (refused 6 160))
+    ∷ (checking (inside 16 repeat_once (2 ∷ 0 ∷ 2 ∷ 0 ∷ 98 ∷ 97 ∷ [])) gives checked (refused 6 160))
     -- 7 before what a group holds: an unknown kind in the tenth group
     ∷ (checking (inside 10 group_of (0 ∷ 0 ∷ 7 ∷ 0 ∷ [])) gives checked (refused 7 36))
     -- an empty string with a body, then an unknown kind
@@ -102,7 +102,7 @@ walk =
     -- right numbers, and three bytes where a record should be
     ∷ (checking (9 ∷ 0 ∷ 6 ∷ 0 ∷ 0 ∷ 0 ∷ 1 ∷ 0 ∷ 0 ∷ 0 ∷ 0 ∷ 0 ∷ 0 ∷ []) gives checked (refused 2 10))
     -- a group on level 16 with nothing inside: 2 where it should begin, not 6
-    ∷ (checking (inside 15 repeatOnce (0 ∷ 0 ∷ 3 ∷ 0 ∷ [])) gives checked (refused 2 154))
+    ∷ (checking (inside 15 repeat_once (0 ∷ 0 ∷ 3 ∷ 0 ∷ [])) gives checked (refused 2 154))
     -- a tenth group with nothing inside: 7, not 2
     ∷ (checking (inside 9 group_of (0 ∷ 0 ∷ 3 ∷ 0 ∷ [])) gives checked (refused 7 36))
     -- bytes behind the outermost record, after the whole walk: an unknown kind inside
@@ -139,7 +139,7 @@ limits =
     -- a most of 256
     ∷ (checking (10 ∷ 0 ∷ 6 ∷ 0 ∷ 0 ∷ 0 ∷ 0 ∷ 1 ∷ 0 ∷ 0 ∷ 0 ∷ 0 ∷ 1 ∷ 0 ∷ []) gives checked (refused 5 0))
     -- 16 levels
-    ∷ (checking (inside 15 repeatOnce (0 ∷ 0 ∷ 1 ∷ 0 ∷ [])) gives checked (accepted (record { places = 16; depth = 0; groups = 0 })))
+    ∷ (checking (inside 15 repeat_once (0 ∷ 0 ∷ 1 ∷ 0 ∷ [])) gives checked (accepted (record { places = 16; depth = 0; groups = 0 })))
     -- nine groups
     ∷ (checking (inside 9 group_of (0 ∷ 0 ∷ 1 ∷ 0 ∷ [])) gives checked (accepted (record { places = 19; depth = 0; groups = 9 })))
     -- nine groups inside a repeat of 0 to 0 count: the next is the tenth
@@ -172,21 +172,21 @@ finding =
 abbrev pub replacements : List Case
 replacements =
     -- 01's case 14: ([A-Za-z]+) ([A-Za-z]+) by "$2, $1" in "Don Knuth; Alan Turing"
-    (replacing (50 ∷ 0 ∷ 4 ∷ 0 ∷ 18 ∷ 0 ∷ 3 ∷ 0 ∷ 14 ∷ 0 ∷ 6 ∷ 0 ∷ 1 ∷ 0 ∷ 255 ∷ 255 ∷ 0 ∷ 0 ∷ 4 ∷ 0 ∷ 2 ∷ 0 ∷ 65 ∷ 90 ∷ 97 ∷ 122 ∷ 2 ∷ 0 ∷ 2 ∷ 0 ∷ 32 ∷ 32 ∷ 18 ∷ 0 ∷ 3 ∷ 0 ∷ 14 ∷ 0 ∷ 6 ∷ 0 ∷ 1 ∷ 0 ∷ 255 ∷ 255 ∷ 0 ∷ 0 ∷ 4 ∷ 0 ∷ 2 ∷ 0 ∷ 65 ∷ 90 ∷ 97 ∷ 122 ∷ []) (2 ∷ 0 ∷ 33 ∷ 0 ∷ 2 ∷ 0 ∷ 2 ∷ 0 ∷ 32 ∷ 0 ∷ 44 ∷ 32 ∷ 2 ∷ 0 ∷ 33 ∷ 0 ∷ 1 ∷ 0 ∷ []) (68 ∷ 111 ∷ 110 ∷ 32 ∷ 75 ∷ 110 ∷ 117 ∷ 116 ∷ 104 ∷ 59 ∷ 32 ∷ 65 ∷ 108 ∷ 97 ∷ 110 ∷ 32 ∷ 84 ∷ 117 ∷ 114 ∷ 105 ∷ 110 ∷ 103 ∷ []) (replicate 24 7) gives replaced (accepted (record { outputLength = 24; replaced = 2; steps = 654 })) (75 ∷ 110 ∷ 117 ∷ 116 ∷ 104 ∷ 44 ∷ 32 ∷ 68 ∷ 111 ∷ 110 ∷ 59 ∷ 32 ∷ 84 ∷ 117 ∷ 114 ∷ 105 ∷ 110 ∷ 103 ∷ 44 ∷ 32 ∷ 65 ∷ 108 ∷ 97 ∷ 110 ∷ []))
+    (replacing (50 ∷ 0 ∷ 4 ∷ 0 ∷ 18 ∷ 0 ∷ 3 ∷ 0 ∷ 14 ∷ 0 ∷ 6 ∷ 0 ∷ 1 ∷ 0 ∷ 255 ∷ 255 ∷ 0 ∷ 0 ∷ 4 ∷ 0 ∷ 2 ∷ 0 ∷ 65 ∷ 90 ∷ 97 ∷ 122 ∷ 2 ∷ 0 ∷ 2 ∷ 0 ∷ 32 ∷ 32 ∷ 18 ∷ 0 ∷ 3 ∷ 0 ∷ 14 ∷ 0 ∷ 6 ∷ 0 ∷ 1 ∷ 0 ∷ 255 ∷ 255 ∷ 0 ∷ 0 ∷ 4 ∷ 0 ∷ 2 ∷ 0 ∷ 65 ∷ 90 ∷ 97 ∷ 122 ∷ []) (2 ∷ 0 ∷ 33 ∷ 0 ∷ 2 ∷ 0 ∷ 2 ∷ 0 ∷ 32 ∷ 0 ∷ 44 ∷ 32 ∷ 2 ∷ 0 ∷ 33 ∷ 0 ∷ 1 ∷ 0 ∷ []) (68 ∷ 111 ∷ 110 ∷ 32 ∷ 75 ∷ 110 ∷ 117 ∷ 116 ∷ 104 ∷ 59 ∷ 32 ∷ 65 ∷ 108 ∷ 97 ∷ 110 ∷ 32 ∷ 84 ∷ 117 ∷ 114 ∷ 105 ∷ 110 ∷ 103 ∷ []) (replicate 24 7) gives replaced (accepted (record { output_length = 24; replaced = 2; steps = 654 })) (75 ∷ 110 ∷ 117 ∷ 116 ∷ 104 ∷ 44 ∷ 32 ∷ 68 ∷ 111 ∷ 110 ∷ 59 ∷ 32 ∷ 84 ∷ 117 ∷ 114 ∷ 105 ∷ 110 ∷ 103 ∷ 44 ∷ 32 ∷ 65 ∷ 108 ∷ 97 ∷ 110 ∷ []))
     -- b* by "-" in "abc" into a buffer that is too short: all of it stays
-    ∷ (replacing manyB dash abc (replicate 4 7) gives replaced (refused 13 0) (replicate 4 7))
+    ∷ (replacing many_b dash abc (replicate 4 7) gives replaced (refused 13 0) (replicate 4 7))
     -- the empty rest of a line is searched: b* by "-" in ""
-    ∷ (replacing manyB dash [] (7 ∷ []) gives replaced (accepted (record { outputLength = 1; replaced = 1; steps = 10 })) (45 ∷ []))
+    ∷ (replacing many_b dash [] (7 ∷ []) gives replaced (accepted (record { output_length = 1; replaced = 1; steps = 10 })) (45 ∷ []))
     -- replaced by nothing is replaced: a in "aba"
-    ∷ (replacing (2 ∷ 0 ∷ 2 ∷ 0 ∷ 97 ∷ 97 ∷ []) [] (97 ∷ 98 ∷ 97 ∷ []) (replicate 3 7) gives replaced (accepted (record { outputLength = 1; replaced = 2; steps = 53 })) (98 ∷ 7 ∷ 7 ∷ []))
+    ∷ (replacing (2 ∷ 0 ∷ 2 ∷ 0 ∷ 97 ∷ 97 ∷ []) [] (97 ∷ 98 ∷ 97 ∷ []) (replicate 3 7) gives replaced (accepted (record { output_length = 1; replaced = 2; steps = 53 })) (98 ∷ 7 ∷ 7 ∷ []))
     -- a suppressed empty match is not tried again for a longer one: a|b*? by "-" in "ab"
-    ∷ (replacing (22 ∷ 0 ∷ 5 ∷ 0 ∷ 2 ∷ 0 ∷ 2 ∷ 0 ∷ 97 ∷ 97 ∷ 12 ∷ 0 ∷ 6 ∷ 0 ∷ 0 ∷ 0 ∷ 255 ∷ 255 ∷ 1 ∷ 0 ∷ 2 ∷ 0 ∷ 2 ∷ 0 ∷ 98 ∷ 98 ∷ []) dash (97 ∷ 98 ∷ []) (replicate 3 7) gives replaced (accepted (record { outputLength = 3; replaced = 2; steps = 64 })) (45 ∷ 98 ∷ 45 ∷ []))
+    ∷ (replacing (22 ∷ 0 ∷ 5 ∷ 0 ∷ 2 ∷ 0 ∷ 2 ∷ 0 ∷ 97 ∷ 97 ∷ 12 ∷ 0 ∷ 6 ∷ 0 ∷ 0 ∷ 0 ∷ 255 ∷ 255 ∷ 1 ∷ 0 ∷ 2 ∷ 0 ∷ 2 ∷ 0 ∷ 98 ∷ 98 ∷ []) dash (97 ∷ 98 ∷ []) (replicate 3 7) gives replaced (accepted (record { output_length = 3; replaced = 2; steps = 64 })) (45 ∷ 98 ∷ 45 ∷ []))
     -- reference 0 is the match: a by "$0$0" in "ab"
-    ∷ (replacing (2 ∷ 0 ∷ 2 ∷ 0 ∷ 97 ∷ 97 ∷ []) (2 ∷ 0 ∷ 33 ∷ 0 ∷ 0 ∷ 0 ∷ 2 ∷ 0 ∷ 33 ∷ 0 ∷ 0 ∷ 0 ∷ []) (97 ∷ 98 ∷ []) (replicate 3 7) gives replaced (accepted (record { outputLength = 3; replaced = 1; steps = 32 })) (97 ∷ 97 ∷ 98 ∷ []))
+    ∷ (replacing (2 ∷ 0 ∷ 2 ∷ 0 ∷ 97 ∷ 97 ∷ []) (2 ∷ 0 ∷ 33 ∷ 0 ∷ 0 ∷ 0 ∷ 2 ∷ 0 ∷ 33 ∷ 0 ∷ 0 ∷ 0 ∷ []) (97 ∷ 98 ∷ []) (replicate 3 7) gives replaced (accepted (record { output_length = 3; replaced = 1; steps = 32 })) (97 ∷ 97 ∷ 98 ∷ []))
     -- no match: the rest is copied: a in "bb"
-    ∷ (replacing (2 ∷ 0 ∷ 2 ∷ 0 ∷ 97 ∷ 97 ∷ []) dash (98 ∷ 98 ∷ []) (replicate 2 7) gives replaced (accepted (record { outputLength = 2; replaced = 0; steps = 17 })) (98 ∷ 98 ∷ []))
+    ∷ (replacing (2 ∷ 0 ∷ 2 ∷ 0 ∷ 97 ∷ 97 ∷ []) dash (98 ∷ 98 ∷ []) (replicate 2 7) gives replaced (accepted (record { output_length = 2; replaced = 0; steps = 17 })) (98 ∷ 98 ∷ []))
     -- an absent group puts in nothing: (a)|b by "$1" in "ba"
-    ∷ (replacing (16 ∷ 0 ∷ 5 ∷ 0 ∷ 6 ∷ 0 ∷ 3 ∷ 0 ∷ 2 ∷ 0 ∷ 2 ∷ 0 ∷ 97 ∷ 97 ∷ 2 ∷ 0 ∷ 2 ∷ 0 ∷ 98 ∷ 98 ∷ []) (2 ∷ 0 ∷ 33 ∷ 0 ∷ 1 ∷ 0 ∷ []) (98 ∷ 97 ∷ []) (replicate 2 7) gives replaced (accepted (record { outputLength = 1; replaced = 2; steps = 49 })) (97 ∷ 7 ∷ []))
+    ∷ (replacing (16 ∷ 0 ∷ 5 ∷ 0 ∷ 6 ∷ 0 ∷ 3 ∷ 0 ∷ 2 ∷ 0 ∷ 2 ∷ 0 ∷ 97 ∷ 97 ∷ 2 ∷ 0 ∷ 2 ∷ 0 ∷ 98 ∷ 98 ∷ []) (2 ∷ 0 ∷ 33 ∷ 0 ∷ 1 ∷ 0 ∷ []) (98 ∷ 97 ∷ []) (replicate 2 7) gives replaced (accepted (record { output_length = 1; replaced = 2; steps = 49 })) (97 ∷ 7 ∷ []))
     -- the pattern before the template
     ∷ (replacing (0 ∷ 0 ∷ 7 ∷ 0 ∷ []) (0 ∷ 0 ∷ 32 ∷ 0 ∷ []) [] (replicate 2 7) gives replaced (refused 3 0) (replicate 2 7))
     -- all of 9 before any 10: a reference too high for the pattern, then an empty literal
@@ -215,23 +215,23 @@ replacements =
 abbrev pub pieces : List Case
 pieces =
     -- a literal: out of the template; the row that is wrong is not asked for
-    (piecing arrowAndRow1 abc (row1 3 2) 0 gives put (accepted (record { source = fromTemplate; start = 4; end = 6 })) (45 ∷ 62 ∷ []))
+    (piecing arrow_and_row1 abc (row1 3 2) 0 gives put (accepted (record { source = fromTemplate; start = 4; end = 6 })) (45 ∷ 62 ∷ []))
     -- a reference: out of the line
-    ∷ (piecing arrowAndRow1 abc (row1 1 3) 1 gives put (accepted (record { source = fromLine; start = 1; end = 3 })) (98 ∷ 99 ∷ []))
+    ∷ (piecing arrow_and_row1 abc (row1 1 3) 1 gives put (accepted (record { source = fromLine; start = 1; end = 3 })) (98 ∷ 99 ∷ []))
     -- an empty row is present
-    ∷ (piecing arrowAndRow1 abc (row1 3 3) 1 gives put (accepted (record { source = fromLine; start = 3; end = 3 })) [])
+    ∷ (piecing arrow_and_row1 abc (row1 3 3) 1 gives put (accepted (record { source = fromLine; start = 3; end = 3 })) [])
     -- an absent row: the empty part at the line's start
-    ∷ (piecing arrowAndRow1 abc (row1 65535 65535) 1 gives put (accepted (record { source = fromLine; start = 0; end = 0 })) [])
+    ∷ (piecing arrow_and_row1 abc (row1 65535 65535) 1 gives put (accepted (record { source = fromLine; start = 0; end = 0 })) [])
     -- a start above its end
-    ∷ (piecing arrowAndRow1 abc (row1 2 1) 1 gives put (refused 15 0) [])
+    ∷ (piecing arrow_and_row1 abc (row1 2 1) 1 gives put (refused 15 0) [])
     -- an end past the line's
-    ∷ (piecing arrowAndRow1 abc (row1 1 4) 1 gives put (refused 15 0) [])
+    ∷ (piecing arrow_and_row1 abc (row1 1 4) 1 gives put (refused 15 0) [])
     -- a piece past the last, where no row is asked for
-    ∷ (piecing arrowAndRow1 abc (row1 2 1) 2 gives put (refused 16 0) [])
+    ∷ (piecing arrow_and_row1 abc (row1 2 1) 2 gives put (refused 16 0) [])
     -- 12 before 16
-    ∷ (piecing arrowAndRow1 abc (replicate 19 7) 2 gives put (refused 12 0) [])
+    ∷ (piecing arrow_and_row1 abc (replicate 19 7) 2 gives put (refused 12 0) [])
     -- 11 before 12
-    ∷ (piecing arrowAndRow1 (replicate 65535 0) [] 2 gives put (refused 11 0) [])
+    ∷ (piecing arrow_and_row1 (replicate 65535 0) [] 2 gives put (refused 11 0) [])
     -- 9 before 11
     ∷ (piecing (0 ∷ 0 ∷ 32 ∷ 0 ∷ []) (replicate 65535 0) [] 2 gives put (refused 9 0) [])
     -- 9 for a template that is too long, at 0
@@ -243,8 +243,8 @@ abbrev pub cases : List Case
 cases = walk ++ (limits ++ (finding ++ (replacements ++ pieces)))
 
 -- the definitions answer as told; a line of `refl` for each of the five lists
-pub cases-told : map (λ (c : Case). answer c.question) cases ≡ map (λ (c : Case). c.told) cases
-cases-told =
+pub cases_told : map (λ (c : Case). answer c.question) cases ≡ map (λ (c : Case). c.told) cases
+cases_told =
     same (λ (c : Case). answer c.question) (λ (c : Case). c.told) cases
     refl refl refl refl refl refl refl refl refl refl refl refl refl refl refl refl refl refl refl refl refl refl refl
     refl refl refl refl refl refl refl refl refl refl refl refl refl refl refl refl

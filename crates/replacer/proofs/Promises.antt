@@ -13,31 +13,31 @@ use Rattle.replacer.specs.Promise.{Replaces}
 
 -- ---- one answer
 
-abbrev lengthIn : Checked paper.Replaced → ℕ
-lengthIn (refused number place) = 0
-lengthIn (accepted r) = r.outputLength
+abbrev length_in : Checked paper.Replaced → ℕ
+length_in (refused number place) = 0
+length_in (accepted r) = r.output_length
 
-abbrev replacedIn : Checked paper.Replaced → ℕ
-replacedIn (refused number place) = 0
-replacedIn (accepted r) = r.replaced
+abbrev replaced_in : Checked paper.Replaced → ℕ
+replaced_in (refused number place) = 0
+replaced_in (accepted r) = r.replaced
 
-abbrev stepsIn : Checked paper.Replaced → ℕ
-stepsIn (refused number place) = 0
-stepsIn (accepted r) = r.steps
+abbrev steps_in : Checked paper.Replaced → ℕ
+steps_in (refused number place) = 0
+steps_in (accepted r) = r.steps
 
 -- no two answers are read alike
-pub answers-differ : (a b : Replaced) → answer_of a ≡ answer_of b → a ≡ b
-answers-differ (Replaced.Refused n p) (Replaced.Refused m q) is = cc
-answers-differ (Replaced.Refused n p) (Replaced.Done l r s) is = cc
-answers-differ (Replaced.Done l r s) (Replaced.Refused n p) is = cc
-answers-differ (Replaced.Done l r s) (Replaced.Done l' r' s') is =
-    λ i. Replaced.Done (ap lengthIn is i) (ap replacedIn is i) (ap stepsIn is i)
+pub answers_differ : (a b : Replaced) → answer_of a ≡ answer_of b → a ≡ b
+answers_differ (Replaced.Refused n p) (Replaced.Refused m q) is = cc
+answers_differ (Replaced.Refused n p) (Replaced.Done l r s) is = cc
+answers_differ (Replaced.Done l r s) (Replaced.Refused n p) is = cc
+answers_differ (Replaced.Done l r s) (Replaced.Done l' r' s') is =
+    λ i. Replaced.Done (ap length_in is i) (ap replaced_in is i) (ap steps_in is i)
 
 -- the promise allows one answer and one buffer
-pub one-replaced : (pattern template line lent : List ℕ) (a b : Replaced) (after after' : List ℕ) → Replaces pattern template line lent a after
+pub one_replaced : (pattern template line lent : List ℕ) (a b : Replaced) (after after' : List ℕ) → Replaces pattern template line lent a after
     → Replaces pattern template line lent b after' → (a ≡ b) × (after ≡ after')
-one-replaced pattern template line lent a b after after' first second =
-    (answers-differ a b (first.answer ∙ sym second.answer), first.buffer ∙ sym second.buffer)
+one_replaced pattern template line lent a b after after' first second =
+    (answers_differ a b (first.answer ∙ sym second.answer), first.buffer ∙ sym second.buffer)
 
 -- ---- 01's case 14: ([A-Za-z]+) ([A-Za-z]+) by "$2, $1" in "Don Knuth; Alan Turing", into a buffer of 24 bytes
 
@@ -53,38 +53,38 @@ abbrev names : List ℕ
 names = 68 ∷ 111 ∷ 110 ∷ 32 ∷ 75 ∷ 110 ∷ 117 ∷ 116 ∷ 104 ∷ 59 ∷ 32 ∷ 65 ∷ 108 ∷ 97 ∷ 110 ∷ 32 ∷ 84 ∷ 117 ∷ 114 ∷ 105 ∷ 110 ∷ 103 ∷ []
 
 -- "Knuth, Don; Turing, Alan"
-abbrev bothTurned : List ℕ
-bothTurned =
+abbrev both_turned : List ℕ
+both_turned =
     75 ∷ 110 ∷ 117 ∷ 116 ∷ 104 ∷ 44 ∷ 32 ∷ 68 ∷ 111 ∷ 110 ∷ 59 ∷ 32 ∷ 84 ∷ 117 ∷ 114 ∷ 105 ∷ 110 ∷ 103 ∷ 44 ∷ 32 ∷ 65 ∷ 108 ∷ 97 ∷ 110 ∷ []
 
 -- "Knuth, Don; Alan Turing", and the byte that stood behind
-abbrev firstTurned : List ℕ
-firstTurned =
+abbrev first_turned : List ℕ
+first_turned =
     75 ∷ 110 ∷ 117 ∷ 116 ∷ 104 ∷ 44 ∷ 32 ∷ 68 ∷ 111 ∷ 110 ∷ 59 ∷ 32 ∷ 65 ∷ 108 ∷ 97 ∷ 110 ∷ 32 ∷ 84 ∷ 117 ∷ 114 ∷ 105 ∷ 110 ∷ 103 ∷ 7 ∷ []
 
 -- the promise there: both matches are replaced
-pub both-replaced : (r : Replaced) (after : List ℕ) → Replaces words turned names (replicate 24 7) r after
-    → (r ≡ Replaced.Done 24 2 654) × (after ≡ bothTurned)
-both-replaced r after promise = (answers-differ r (Replaced.Done 24 2 654) promise.answer, promise.buffer)
+pub both_replaced : (r : Replaced) (after : List ℕ) → Replaces words turned names (replicate 24 7) r after
+    → (r ≡ Replaced.Done 24 2 654) × (after ≡ both_turned)
+both_replaced r after promise = (answers_differ r (Replaced.Done 24 2 654) promise.answer, promise.buffer)
 
 -- so one that replaces the first match and copies the rest breaks it, by its count and by its output
-pub first-only-counted : (long steps : ℕ) (after : List ℕ) → Replaces words turned names (replicate 24 7) (Replaced.Done long 1 steps) after → ⊥
-first-only-counted long steps after promise =
-    let wrong : ◌≡◌ {A = ℕ} 1 2 = ap replacedIn promise.answer in
+pub first_only_counted : (long steps : ℕ) (after : List ℕ) → Replaces words turned names (replicate 24 7) (Replaced.Done long 1 steps) after → ⊥
+first_only_counted long steps after promise =
+    let wrong : ◌≡◌ {A = ℕ} 1 2 = ap replaced_in promise.answer in
     omega arith
 
-pub first-only-written : (r : Replaced) → Replaces words turned names (replicate 24 7) r firstTurned → ⊥
-first-only-written r promise =
+pub first_only_written : (r : Replaced) → Replaces words turned names (replicate 24 7) r first_turned → ⊥
+first_only_written r promise =
     let wrong : ◌≡◌ {A = ℕ} 65 84 = ap (λ (l : List ℕ). get_or l 12 0) promise.buffer in
     omega arith
 
 -- and so do one that refuses everything, and one that replaces nothing
-pub refuses-all : (number place : ℕ) (after : List ℕ) → Replaces words turned names (replicate 24 7) (Replaced.Refused number place) after → ⊥
-refuses-all number place after promise =
-    let wrong : ◌≡◌ {A = ℕ} 0 2 = ap replacedIn promise.answer in
+pub refuses_all : (number place : ℕ) (after : List ℕ) → Replaces words turned names (replicate 24 7) (Replaced.Refused number place) after → ⊥
+refuses_all number place after promise =
+    let wrong : ◌≡◌ {A = ℕ} 0 2 = ap replaced_in promise.answer in
     omega arith
 
-pub replaces-none : (long steps : ℕ) (after : List ℕ) → Replaces words turned names (replicate 24 7) (Replaced.Done long 0 steps) after → ⊥
-replaces-none long steps after promise =
-    let wrong : ◌≡◌ {A = ℕ} 0 2 = ap replacedIn promise.answer in
+pub replaces_none : (long steps : ℕ) (after : List ℕ) → Replaces words turned names (replicate 24 7) (Replaced.Done long 0 steps) after → ⊥
+replaces_none long steps after promise =
+    let wrong : ◌≡◌ {A = ℕ} 0 2 = ap replaced_in promise.answer in
     omega arith

@@ -7,9 +7,9 @@ use Rattle.replacer.specs.declared.Replaced.{Replaced}
 -- the number and the place of a refusal, or the output's length, the replacements and the sum of the steps
 abbrev pub answer_of : Replaced → Checked paper.Replaced
 answer_of (Replaced.Refused number place) = refused number place
-answer_of (Replaced.Done length replacements steps) = accepted (record { outputLength = length; replaced = replacements; steps = steps })
+answer_of (Replaced.Done length replacements steps) = accepted (record { output_length = length; replaced = replacements; steps = steps })
 
 -- the steps that an answer tells
-abbrev pub stepsTold : Replaced → ℕ
-stepsTold (Replaced.Refused number place) = 0
-stepsTold (Replaced.Done length replacements steps) = steps
+abbrev pub steps_told : Replaced → ℕ
+steps_told (Replaced.Refused number place) = 0
+steps_told (Replaced.Done length replacements steps) = steps

@@ -3,7 +3,7 @@ mod scans;
 
 ghost use Rattle.std.specs.Prelude.{◌≡◌, Bool};
 ghost use Rattle.paper.specs.Pattern.{groups};
-ghost use Rattle.machine.specs.Machine.{Ready, Scratch, fitsSmall};
+ghost use Rattle.machine.specs.Machine.{Ready, Scratch, fits_small};
 ghost use Rattle.replacer.specs.Given.{tree_of, Replaceable};
 ghost use Rattle.replacer.specs.Promise.{Replaces};
 
@@ -103,7 +103,7 @@ fn replace_small(
     line: &[u8],
     buffer: &mut [u8],
 ) -> Replaced
-    requires { Replaceable pattern.now code.now places depth template.now line.now × (fitsSmall places depth ≡ Bool.true) }
+    requires { Replaceable pattern.now code.now places depth template.now line.now × (fits_small places depth ≡ Bool.true) }
     ensures { Replaces pattern.now template.now line.now buffer.old result buffer.new }
 {
     let mut seen = [0u16; Small::PAIRS];

@@ -8,88 +8,88 @@ use lib.Dec.{ltb}
 use lib.ListN.{length, replicate, length-replicate}
 use Rattle.paper.specs.Rows.{Rows, no_rows}
 use Rattle.threads.specs.Threads.{rows_from, stored}
-use Rattle.run.specs.Steps.{list_of, Stepping, Steps, Running, Runs, stoppedAs}
-use Rattle.run.proofs.Lists.{list-long, thread-room, rows_of}
-use Rattle.run.proofs.Position.{Position, position_first, position-asked, position-next, position-last, position-less, at_cells}
+use Rattle.run.specs.Steps.{list_of, Stepping, Steps, Running, Runs, stopped_as}
+use Rattle.run.proofs.Lists.{list_long, thread_room, rows_of}
+use Rattle.run.proofs.Position.{Position, position_first, position_asked, position_next, position_last, position_less, at_cells}
 
 -- of the tables where the loop starts (₀) and now: the threads of the current list, and the lengths that a run keeps
 pub record Course (code pattern line : List ℕ) (places start : ℕ) (seen₀ taken₀ lists₀ pending₀ seen taken lists pending : List ℕ)
     (p number steps : ℕ) (matched second goes : Bool) : Type 0 where
   pub position : Position code pattern line places start (length seen₀) seen taken (list_of places second lists) p number steps matched goes
-  pub taken-same : length taken ≡ length taken₀
-  pub lists-same : length lists ≡ length lists₀
-  pub pending-same : length pending ≡ length pending₀
-  pub lists-long : 2 * (21 * (places + 1)) ≤ length lists₀
-  pub pending-long : 22 * (2 * places) ≤ length pending₀
+  pub taken_same : length taken ≡ length taken₀
+  pub lists_same : length lists ≡ length lists₀
+  pub pending_same : length pending ≡ length pending₀
+  pub lists_long : 2 * (21 * (places + 1)) ≤ length lists₀
+  pub pending_long : 22 * (2 * places) ≤ length pending₀
 
 -- it holds at the start, with the tables wiped and one thread in the first list
-pub course-first : (code pattern line : List ℕ) (places start : ℕ) (seen taken lists pending : List ℕ) → Running code pattern line places start seen taken lists pending
+pub course_first : (code pattern line : List ℕ) (places start : ℕ) (seen taken lists pending : List ℕ) → Running code pattern line places start seen taken lists pending
     → (seen' taken' lists' : List ℕ) → length lists' ≡ length lists
     → seen' ≡ replicate (length seen) 0 → taken' ≡ replicate (length taken) 0 → lists' ≡ stored lists 0 0 no_rows
     → Course code pattern line places start seen' taken' lists' pending seen' taken' lists' pending start 1 0 false false true
-course-first code pattern line places start seen taken lists pending asked seen' taken' lists' same_lists es et el = record {
+course_first code pattern line places start seen taken lists pending asked seen' taken' lists' same_lists es et el = record {
   position =
       at_cells (length seen') (sym (ap length es ∙ length-replicate (length seen) 0))
       (position_first code pattern line places start seen taken lists pending asked seen' taken' lists' es et el);
-  taken-same = refl;
-  lists-same = refl;
-  pending-same = refl;
-  lists-long = omega (arith, asked.lists-long);
-  pending-long = asked.pending-long;
+  taken_same = refl;
+  lists_same = refl;
+  pending_same = refl;
+  lists_long = omega (arith, asked.lists_long);
+  pending_long = asked.pending_long;
 }
 
 module _ {code pattern line : List ℕ} {places start : ℕ} {seen₀ taken₀ lists₀ pending₀ seen taken lists pending : List ℕ}
     {p number steps : ℕ} {matched second goes : Bool}
     (q : Course code pattern line places start seen₀ taken₀ lists₀ pending₀ seen taken lists pending p number steps matched second goes) where
   -- both lists lie inside the memory
-  pub course-room : 2 * (21 * (places + 1)) ≤ length lists
-  course-room = omega (arith, q.lists-long, q.lists-same)
+  pub course_room : 2 * (21 * (places + 1)) ≤ length lists
+  course_room = omega (arith, q.lists_long, q.lists_same)
 
   -- what the next position asks
-  pub course-asked : goes ≡ true
+  pub course_asked : goes ≡ true
       → Stepping code pattern places p seen taken (list_of places second lists) number (list_of places (not second) lists) pending steps
-  course-asked go =
-      position-asked q.position go (list_of places (not second) lists) pending
-      (omega (arith, list-long places (not second) lists course-room)) (omega (arith, q.pending-long, q.pending-same))
+  course_asked go =
+      position_asked q.position go (list_of places (not second) lists) pending
+      (omega (arith, list_long places (not second) lists course_room)) (omega (arith, q.pending_long, q.pending_same))
 
   -- another position can be counted
-  pub course-early : goes ≡ true → p + 1 < 65536
-  course-early go = omega (arith, q.position.within go, q.position.line-long)
+  pub course_early : goes ≡ true → p + 1 < 65536
+  course_early go = omega (arith, q.position.within go, q.position.line_long)
 
   -- fewer positions are left
-  pub course-less : goes ≡ true → (goes' : Bool) → (length line + 1 - (p + 1)) + cond goes' 1 0 < (length line + 1 - p) + cond goes 1 0
-  course-less = position-less q.position
+  pub course_less : goes ≡ true → (goes' : Bool) → (length line + 1 - (p + 1)) + cond goes' 1 0 < (length line + 1 - p) + cond goes 1 0
+  course_less = position_less q.position
 
   -- after a position, with the lists exchanged
-  pub course-next : goes ≡ true → (seen' taken' lists' pending' : List ℕ) (count steps' : ℕ) (done goes' : Bool)
+  pub course_next : goes ≡ true → (seen' taken' lists' pending' : List ℕ) (count steps' : ℕ) (done goes' : Bool)
       → length seen' ≡ length seen → length taken' ≡ length taken → length lists' ≡ length lists → length pending' ≡ length pending
       → Steps code pattern line places p seen taken (list_of places second lists) number steps seen' taken' (list_of places (not second) lists') count steps' done
       → (r : ℕ) → r ≡ p → goes' ≡ (not done && (ltb 0 count && ltb r (length line)))
       → Course code pattern line places start seen₀ taken₀ lists₀ pending₀ seen' taken' lists' pending' (p + 1) count steps' done (not second) goes'
-  course-next go seen' taken' lists' pending' count steps' done goes' same_seen same_taken same_lists same-pending made r er going =
-      let room : 2 * (21 * (places + 1)) ≤ length lists' = omega (arith, course-room) in
+  course_next go seen' taken' lists' pending' count steps' done goes' same_seen same_taken same_lists same-pending made r er going =
+      let room : 2 * (21 * (places + 1)) ≤ length lists' = omega (arith, course_room) in
       record {
         position =
-            position-next q.position go seen' taken' (list_of places (not second) lists') count steps' done goes' same_seen
-            (omega (arith, list-long places (not second) lists' room)) made r er going;
-        taken-same = same_taken ∙ q.taken-same;
-        lists-same = same_lists ∙ q.lists-same;
-        pending-same = same-pending ∙ q.pending-same;
-        lists-long = q.lists-long;
-        pending-long = q.pending-long;
+            position_next q.position go seen' taken' (list_of places (not second) lists') count steps' done goes' same_seen
+            (omega (arith, list_long places (not second) lists' room)) made r er going;
+        taken_same = same_taken ∙ q.taken_same;
+        lists_same = same_lists ∙ q.lists_same;
+        pending_same = same-pending ∙ q.pending_same;
+        lists_long = q.lists_long;
+        pending_long = q.pending_long;
       }
 
   module _ (from : ℕ) (begins : from ≡ cond second (21 * (places + 1)) 0) where
-    winner-inside : 21 * number + 21 ≤ 21 * (places + 1)
-    winner-inside = omega (arith, q.position.few)
+    winner_inside : 21 * number + 21 ≤ 21 * (places + 1)
+    winner_inside = omega (arith, q.position.few)
 
     -- the winner stands behind the threads, inside the memory
-    pub course-winner : from + 21 * number + 21 ≤ length lists
-    course-winner = thread-room places second lists course-room from number begins winner-inside
+    pub course_winner : from + 21 * number + 21 ≤ length lists
+    course_winner = thread_room places second lists course_room from number begins winner_inside
 
     -- at the end the answer with its rows is the definition's
-    pub course-rows : goes ≡ false → (cells : ℕ) → length seen₀ ≡ cells → (rows : Rows) → rows ≡ rows_from lists (from + 21 * number)
+    pub course_rows : goes ≡ false → (cells : ℕ) → length seen₀ ≡ cells → (rows : Rows) → rows ≡ rows_from lists (from + 21 * number)
         → Runs code pattern line places start cells matched steps rows
-    course-rows stop cells same rows rows_are turns h =
-        position-last q.position stop turns (subst (λ (n : ℕ). n < turns) (sym same) h)
-        ∙ ap (stoppedAs matched steps) (sym (rows_are ∙ rows_of places second lists course-room from number begins winner-inside))
+    course_rows stop cells same rows rows_are turns h =
+        position_last q.position stop turns (subst (λ (n : ℕ). n < turns) (sym same) h)
+        ∙ ap (stopped_as matched steps) (sym (rows_are ∙ rows_of places second lists course_room from number begins winner_inside))

@@ -7,24 +7,24 @@ use native.Mathlib.Omega.{arith}
 use lib.ListN.{length, get_or, take, drop, length-drop}
 use lib.Seq.{get_or-take, get_or-drop, ext_get_or, length-take-le, drop_at, take_at}
 use borrow.Rule.Slice.PartMut.{put_mid, post_of, take_put, drop_put}
-use Rattle.threads.specs.Threads.{place_in, rowsIn, rows_from}
+use Rattle.threads.specs.Threads.{place_in, rows_in, rows_from}
 use Rattle.run.specs.Steps.{list_of}
 
 -- where a list begins
-pub begins-most : (second : Bool) (long : ℕ) → cond second long 0 ≤ long
-begins-most true long = omega arith
-begins-most false long = omega arith
+pub begins_most : (second : Bool) (long : ℕ) → cond second long 0 ≤ long
+begins_most true long = omega arith
+begins_most false long = omega arith
 
 module _ (places : ℕ) (second : Bool) (lists : List ℕ) (room : 2 * (21 * (places + 1)) ≤ length lists) where
-  pub list-long : length (list_of places second lists) ≡ 21 * (places + 1)
-  list-long =
+  pub list_long : length (list_of places second lists) ≡ 21 * (places + 1)
+  list_long =
       length-take-le (21 * (places + 1)) (drop (cond second (21 * (places + 1)) 0) lists)
-      (omega (arith, length-drop (cond second (21 * (places + 1)) 0) lists, begins-most second (21 * (places + 1))))
+      (omega (arith, length-drop (cond second (21 * (places + 1)) 0) lists, begins_most second (21 * (places + 1))))
 
   module _ (from i : ℕ) (begins : from ≡ cond second (21 * (places + 1)) 0) (inside : 21 * i + 21 ≤ 21 * (places + 1)) where
     -- a thread of a list lies inside the memory
-    pub thread-room : from + 21 * i + 21 ≤ length lists
-    thread-room = omega (arith, begins-most second (21 * (places + 1)))
+    pub thread_room : from + 21 * i + 21 ≤ length lists
+    thread_room = omega (arith, begins_most second (21 * (places + 1)))
 
     number_of : (j : ℕ) → j < 21 * (places + 1) → get_or (list_of places second lists) j 0 ≡ get_or lists (from + j) 0
     number_of j h =
@@ -35,13 +35,13 @@ module _ (places : ℕ) (second : Bool) (lists : List ℕ) (room : 2 * (21 * (pl
     pub place_of : get_or lists (from + 21 * i) 0 ≡ place_in (list_of places second lists) i
     place_of = sym (number_of (21 * i) (omega arith))
 
-    pub rows_of : rows_from lists (from + 21 * i) ≡ rowsIn (list_of places second lists) i
+    pub rows_of : rows_from lists (from + 21 * i) ≡ rows_in (list_of places second lists) i
     rows_of =
         let here = drop (from + 21 * i + 1) lists in
         let there = drop (21 * i + 1) (list_of places second lists) in
-        let long : length (take 20 here) ≡ 20 = length-take-le 20 here (omega (arith, length-drop (from + 21 * i + 1) lists, thread-room)) in
+        let long : length (take 20 here) ≡ 20 = length-take-le 20 here (omega (arith, length-drop (from + 21 * i + 1) lists, thread_room)) in
         let long' : length (take 20 there) ≡ 20 =
-        length-take-le 20 there (omega (arith, length-drop (21 * i + 1) (list_of places second lists), list-long)) in
+        length-take-le 20 there (omega (arith, length-drop (21 * i + 1) (list_of places second lists), list_long)) in
         ext_get_or 0 (take 20 here) (take 20 there) (long ∙ sym long')
         (λ j h.
         let below : j < 20 = omega arith in
@@ -53,34 +53,34 @@ module _ (places : ℕ) (second : Bool) (lists : List ℕ) (room : 2 * (21 * (pl
         ∙ (sym (number_of (21 * i + 1 + j) inner) ∙ (sym (get_or-drop (21 * i + 1) (list_of places second lists) j 0) ∙ sym (get_or-take 20 there j 0 below))))))
 
   module _ (to end : ℕ) (begins : to ≡ cond (not second) (21 * (places + 1)) 0) (ends : end ≡ to + 21 * (places + 1)) where
-    pub other-room : end ≤ length lists
-    other-room = omega (arith, begins-most (not second) (21 * (places + 1)))
+    pub other_room : end ≤ length lists
+    other_room = omega (arith, begins_most (not second) (21 * (places + 1)))
 
     amount : end - to ≡ 21 * (places + 1)
     amount = omega arith
 
     -- the part that is lent is the other list
-    pub other-list : take (end - to) (drop to lists) ≡ list_of places (not second) lists
-    other-list = ap₂ (λ (n b : ℕ). take n (drop b lists)) amount begins
+    pub other_list : take (end - to) (drop to lists) ≡ list_of places (not second) lists
+    other_list = ap₂ (λ (n b : ℕ). take n (drop b lists)) amount begins
 
     module _ (list : List ℕ) (long : length list ≡ 21 * (places + 1)) where
       -- back in its place it is the other list
-      pub other-put : list_of places (not second) (put_mid to (end - to) lists list) ≡ list
-      other-put =
+      pub other_put : list_of places (not second) (put_mid to (end - to) lists list) ≡ list
+      other_put =
           ap (λ (b : ℕ). take (21 * (places + 1)) (drop b (put_mid to (end - to) lists list))) (sym begins)
-          ∙ (ap (take (21 * (places + 1))) (drop_at (take to lists) (list ++ post_of to (end - to) lists) to (length-take-le to lists (omega (arith, other-room))))
+          ∙ (ap (take (21 * (places + 1))) (drop_at (take to lists) (list ++ post_of to (end - to) lists) to (length-take-le to lists (omega (arith, other_room))))
           ∙ take_at list (post_of to (end - to) lists) (21 * (places + 1)) long)
 
       -- and the first is as it was
-      pub first-kept : list_of places second (put_mid to (end - to) lists list) ≡ list_of places second lists
-      first-kept = look second begins
+      pub first_kept : list_of places second (put_mid to (end - to) lists list) ≡ list_of places second lists
+      first_kept = look second begins
         where
           look : (b : Bool) → to ≡ cond (not b) (21 * (places + 1)) 0 → list_of places b (put_mid to (end - to) lists list) ≡ list_of places b lists
           look true e =
               let behind : 21 * (places + 1) ≡ end = omega arith in
               ap (take (21 * (places + 1)))
               (ap (λ (m : ℕ). drop m (put_mid to (end - to) lists list)) behind
-              ∙ (drop_put to end lists list (omega arith) other-room (omega (arith, amount)) ∙ ap (λ (m : ℕ). drop m lists) (sym behind)))
+              ∙ (drop_put to end lists list (omega arith) other_room (omega (arith, amount)) ∙ ap (λ (m : ℕ). drop m lists) (sym behind)))
           look false e =
               ap (λ (m : ℕ). take m (put_mid to (end - to) lists list)) (sym e)
-              ∙ (take_put to (end - to) lists list (omega (arith, other-room)) ∙ ap (λ (m : ℕ). take m lists) e)
+              ∙ (take_put to (end - to) lists list (omega (arith, other_room)) ∙ ap (λ (m : ℕ). take m lists) e)

@@ -1,17 +1,17 @@
 -- What a position asks and promises, and what a run does: the definition's, for the places that the table stands for.
 use Rattle.std.specs.Prelude.{ℕ, suc, ◌+◌, ◌-◌, ◌*◌, ◌≤◌, ◌<◌, ◌^◌, ◌≡◌, Bool, true, false, cond, List, [], ◌∷◌, length, take, drop}
-use Rattle.paper.specs.Limits.{lineBytes, absent}
+use Rattle.paper.specs.Limits.{line_bytes, absent}
 use Rattle.paper.specs.Rows.{Rows, no_rows}
 use Rattle.paper.specs.Machine.{at, fresh, visits, run, Stopped}
 use Rattle.paper.specs.Tables.{decode}
-use Rattle.threads.specs.Threads.{threadNumbers, branchNumbers, place_in, threads, Under}
+use Rattle.threads.specs.Threads.{thread_numbers, branch_numbers, place_in, threads, Under}
 use Rattle.moves.specs.Shows.{Shows, Carried}
 use Rattle.visit.specs.Wired.{Wired}
 
 -- one of two lists that stand one behind the other
 abbrev pub list_of : ℕ → Bool → List ℕ → List ℕ
 list_of places second lists =
-    let long = threadNumbers * (places + 1) in
+    let long = thread_numbers * (places + 1) in
     take long (drop (cond second long 0) lists)
 
 -- what a position asks: safe tables without its stamp, threads inside, room for those that they carry and for the branches that wait, and room to count
@@ -19,14 +19,14 @@ pub record Stepping (code pattern : List ℕ) (places p : ℕ) (seen taken threa
   pub wired : Wired code pattern places (length seen)
   pub cells : length seen < 2 ^ 16
   pub early : p < absent
-  pub seen-under : Under p seen
-  pub taken-under : Under p taken
-  pub taken-long : length taken ≡ places
+  pub seen_under : Under p seen
+  pub taken_under : Under p taken
+  pub taken_long : length taken ≡ places
   pub some : 0 < number
-  pub long : threadNumbers * number ≤ length threads
+  pub long : thread_numbers * number ≤ length threads
   pub inside : (i : ℕ) → i < number → place_in threads i < places
-  pub list-long : threadNumbers * (places + 1) ≤ length list
-  pub pending-long : branchNumbers * (2 * places) ≤ length pending
+  pub list_long : thread_numbers * (places + 1) ≤ length list
+  pub pending_long : branch_numbers * (2 * places) ≤ length pending
   pub countable : steps + length seen < 2 ^ 32
 
 -- what it promises: the tables show the state after the definition's visits of the threads, if its bound is above the number of pairs
@@ -43,19 +43,19 @@ pub record Running (code pattern line : List ℕ) (places start : ℕ) (seen tak
   pub wired : Wired code pattern places (length seen)
   pub some : 0 < places
   pub cells : length seen < 2 ^ 16
-  pub taken-long : length taken ≡ places
-  pub lists-long : 2 * (threadNumbers * (places + 1)) ≤ length lists
-  pub pending-long : branchNumbers * (2 * places) ≤ length pending
-  pub line-long : length line ≤ lineBytes
+  pub taken_long : length taken ≡ places
+  pub lists_long : 2 * (thread_numbers * (places + 1)) ≤ length lists
+  pub pending_long : branch_numbers * (2 * places) ≤ length pending
+  pub line_long : length line ≤ line_bytes
   pub starts : start ≤ length line
 
 -- how a run's answer reads as the definition's
-abbrev pub stoppedAs : Bool → ℕ → Rows → Stopped
-stoppedAs true steps rows = Stopped.matched steps rows
-stoppedAs false steps rows = Stopped.unmatched steps
+abbrev pub stopped_as : Bool → ℕ → Rows → Stopped
+stopped_as true steps rows = Stopped.matched steps rows
+stopped_as false steps rows = Stopped.unmatched steps
 
 -- what a run promises: its answer is that of the definition's run from one thread at the first place, if the definition's bound is above the number of pairs
 abbrev pub Runs : (code pattern line : List ℕ) (places start cells : ℕ) (matched : Bool) (steps : ℕ) (rows : Rows) → Type 0
 Runs code pattern line places start cells matched steps rows =
     (turns : ℕ) → cells < turns
-    → run (suc (length line - start)) turns (decode code pattern places) line start (at 0 0 no_rows ∷ []) 0 ≡ stoppedAs matched steps rows
+    → run (suc (length line - start)) turns (decode code pattern places) line start (at 0 0 no_rows ∷ []) 0 ≡ stopped_as matched steps rows

@@ -1,6 +1,6 @@
 // The positions of the line one after the other: the threads of a list visited in order, and those that they carry.
 ghost use Rattle.std.specs.Prelude.{◌≡◌, not, cond, ◌&&◌, ◌+◌, ◌*◌, ◌≤◌, ◌<◌, ltb, length, replicate};
-ghost use Rattle.threads.specs.Threads.{threadNumbers};
+ghost use Rattle.threads.specs.Threads.{thread_numbers};
 ghost use Rattle.moves.specs.Shows.{AheadIn};
 ghost use Rattle.run.specs.Steps.{list_of, Stepping, Steps, Running, Runs};
 
@@ -76,7 +76,7 @@ fn step(
     made: u32,
 ) -> Visited
     requires stepping { Stepping code.now pattern.now places at seen.old taken.old (list_of places second lists.old) number (list_of places (not second) lists.old) pending.old made }
-    requires places_in_bounds { 2 * (threadNumbers * (places + 1)) ≤ length lists.old }
+    requires places_in_bounds { 2 * (thread_numbers * (places + 1)) ≤ length lists.old }
     requires at_in_bounds { at ≤ length line.now }
     ensures { Steps code.now pattern.now line.now places at seen.old taken.old (list_of places second lists.old) number made seen.new taken.new (list_of places (not second) lists.new) result.count result.steps result.done }
 {

@@ -4,17 +4,17 @@ use native.Mathlib.Omega.{arith}
 use mathlib.Core.Bool.{Bool, true, false, cond, ◌&&◌}
 use mathlib.Core.List.{List, [], ◌∷◌}
 use mathlib.Core.Option.{Option}
-use Rattle.paper.specs.Limits.{patternBytes, patternLevels, patternGroups, patternPlaces, templateBytes, lineBytes, tableNumbers, stepLimit}
+use Rattle.paper.specs.Limits.{pattern_bytes, pattern_levels, pattern_groups, pattern_places, template_bytes, line_bytes, table_numbers, step_limit}
 use Rattle.paper.specs.Refusal.{Checked, refused, accepted, ◌>>=◌, ◌>>◌, holds}
-use Rattle.paper.specs.Refusal.{patternTooLong, brokenRecord, setWrong, repeatWrong, tooDeep, tooManyGroups, tooManyPlaces, templateWrong, referenceTooHigh, lineTooLong, tableTooShort, outputTooLong, tooManySteps, rowWrong}
-use Rattle.paper.specs.Pattern.{Pattern, allPlaces, groups}
-use Rattle.paper.specs.Layout.{Kind, nothingKind, emptyKind, bytesKind, groupKind, sequenceKind, alternationKind, repeatKind, kinds, kindNumber}
-use Rattle.paper.specs.Check.{number_at, bodyLength, kind_at, bodyStart, bodyEnd, part, setRight, repeatHead, repeatNumbersRight, Walk, kindAmong, header, single, walkAll, atLeastTwo, several, body, walkRecord, patternOf, numbersOf, check, rangesOf, upperOf, mode_of}
-use Rattle.paper.specs.Rows.{Rows, rowStart, rowEnd}
-use Rattle.paper.specs.Match.{wholeMatch, search, matchSteps, searchSteps, lineAndTable, counted, Found, matchCall, searchCall, told}
-use Rattle.paper.specs.Template.{Piece, literal, reference, literalKind, referenceKind, literalAt, referenceAt, piece_at, piecesFrom, templateOf, within}
-use Rattle.paper.specs.Replace.{replaceAll, replaceCall, Replaced, replaceAnswer}
-use Rattle.paper.specs.PieceCalls.{isAbsent, spanAt, rowSpan, pieceCall, fromLine}
+use Rattle.paper.specs.Refusal.{pattern_too_long, broken_record, set_wrong, repeat_wrong, too_deep, too_many_groups, too_many_places, template_wrong, reference_too_high, line_too_long, table_too_short, output_too_long, too_many_steps, row_wrong}
+use Rattle.paper.specs.Pattern.{Pattern, all_places, groups}
+use Rattle.paper.specs.Layout.{Kind, nothingKind, emptyKind, bytesKind, groupKind, sequenceKind, alternationKind, repeatKind, kinds, kind_number}
+use Rattle.paper.specs.Check.{number_at, body_length, kind_at, body_start, body_end, part, set_right, repeat_head, repeat_numbers_right, Walk, kind_among, header, single, walk_all, at_least_two, several, body, walk_record, pattern_of, numbers_of, check, ranges_of, upper_of, mode_of}
+use Rattle.paper.specs.Rows.{Rows, row_start, row_end}
+use Rattle.paper.specs.Match.{whole_match, search, match_steps, search_steps, line_and_table, counted, Found, match_call, search_call, told}
+use Rattle.paper.specs.Template.{Piece, literal, reference, literal_kind, reference_kind, literal_at, reference_at, piece_at, pieces_from, template_of, within}
+use Rattle.paper.specs.Replace.{replace_all, replace_call, Replaced, replace_answer}
+use Rattle.paper.specs.PieceCalls.{is_absent, span_at, row_span, piece_call, fromLine}
 use lib.Dec.{leb, ltb, eqb}
 use lib.ListN.{length}
 use Rattle.telling.specs.Told.{Numbered}
@@ -51,161 +51,161 @@ asked b number place low high h = after (test b number place low high) h
 
 -- A pattern
 
-kind-named : (ks : List Kind) (number at : ℕ) → Named (kindAmong ks number at)
-kind-named [] number at = no (omega arith) (omega arith)
-kind-named (k ∷ ks) number at = either (eqb number (kindNumber k)) (yes {a = k}) (kind-named ks number at)
+kind_named : (ks : List Kind) (number at : ℕ) → Named (kind_among ks number at)
+kind_named [] number at = no (omega arith) (omega arith)
+kind_named (k ∷ ks) number at = either (eqb number (kind_number k)) (yes {a = k}) (kind_named ks number at)
 
-header-named : (bs : List ℕ) (at stop : ℕ) → Named (header bs at stop)
-header-named bs at stop = asked (leb (bodyEnd bs at) stop) brokenRecord at (omega arith) (omega arith) (kind-named kinds (kind_at bs at) at)
+header_named : (bs : List ℕ) (at stop : ℕ) → Named (header bs at stop)
+header_named bs at stop = asked (leb (body_end bs at) stop) broken_record at (omega arith) (omega arith) (kind_named kinds (kind_at bs at) at)
 
-two-named : (es : List Pattern) (at : ℕ) → Named (atLeastTwo es at)
-two-named [] at = no (omega arith) (omega arith)
-two-named (a ∷ []) at = no (omega arith) (omega arith)
-two-named (a ∷ b ∷ rest) at = yes
+two_named : (es : List Pattern) (at : ℕ) → Named (at_least_two es at)
+two_named [] at = no (omega arith) (omega arith)
+two_named (a ∷ []) at = no (omega arith) (omega arith)
+two_named (a ∷ b ∷ rest) at = yes
 
 module _ (walk : Walk) (walked : (at stop before : ℕ) → Named (walk at stop before)) (bs : List ℕ) where
-  single-named : (at start before : ℕ) → Named (single walk bs at start before)
-  single-named at start before =
-      then (walked start (bodyEnd bs at) before) (λ e. asked (eqb (bodyEnd bs start) (bodyEnd bs at)) brokenRecord at (omega arith) (omega arith) (yes {a = e}))
+  single_named : (at start before : ℕ) → Named (single walk bs at start before)
+  single_named at start before =
+      then (walked start (body_end bs at) before) (λ e. asked (eqb (body_end bs start) (body_end bs at)) broken_record at (omega arith) (omega arith) (yes {a = e}))
 
-  all_named : (turns at stop before : ℕ) → Named (walkAll turns walk bs at stop before)
+  all_named : (turns at stop before : ℕ) → Named (walk_all turns walk bs at stop before)
   all_named zero at stop before = yes
   all_named (suc turns) at stop before =
       either (ltb at stop)
-      (then (walked at stop before) (λ e. then (all_named turns (bodyEnd bs at) stop (before + groups e)) (λ es. yes {a = e ∷ es})))
+      (then (walked at stop before) (λ e. then (all_named turns (body_end bs at) stop (before + groups e)) (λ es. yes {a = e ∷ es})))
       (yes {a = []})
 
-  several-named : (at before : ℕ) → Named (several walk bs at before)
-  several-named at before = then (all_named (bodyLength bs at) (bodyStart at) (bodyEnd bs at) before) (λ es. two-named es at)
+  several_named : (at before : ℕ) → Named (several walk bs at before)
+  several_named at before = then (all_named (body_length bs at) (body_start at) (body_end bs at) before) (λ es. two_named es at)
 
-  body-named : (kind : Kind) (at before : ℕ) → Named (body kind walk bs at before)
-  body-named nothingKind at before = asked (eqb (bodyLength bs at) 0) brokenRecord at (omega arith) (omega arith) (yes {a = Pattern.nothing})
-  body-named emptyKind at before = asked (eqb (bodyLength bs at) 0) brokenRecord at (omega arith) (omega arith) (yes {a = Pattern.empty})
-  body-named bytesKind at before =
-      let inside = part bs (bodyStart at) (bodyEnd bs at) in
-      asked (setRight inside) setWrong at (omega arith) (omega arith) (yes {a = Pattern.bytes (rangesOf inside)})
-  body-named groupKind at before =
-      asked (ltb before patternGroups) tooManyGroups at (omega arith) (omega arith)
-      (then (single-named at (bodyStart at) (before + 1)) (λ e. yes {a = Pattern.group e}))
-  body-named sequenceKind at before = then (several-named at before) (λ ms. yes {a = Pattern.sequence ms})
-  body-named alternationKind at before = then (several-named at before) (λ ms. yes {a = Pattern.alternation ms})
-  body-named repeatKind at before =
-      let start = bodyStart at in
+  body_named : (kind : Kind) (at before : ℕ) → Named (body kind walk bs at before)
+  body_named nothingKind at before = asked (eqb (body_length bs at) 0) broken_record at (omega arith) (omega arith) (yes {a = Pattern.nothing})
+  body_named emptyKind at before = asked (eqb (body_length bs at) 0) broken_record at (omega arith) (omega arith) (yes {a = Pattern.empty})
+  body_named bytesKind at before =
+      let inside = part bs (body_start at) (body_end bs at) in
+      asked (set_right inside) set_wrong at (omega arith) (omega arith) (yes {a = Pattern.bytes (ranges_of inside)})
+  body_named groupKind at before =
+      asked (ltb before pattern_groups) too_many_groups at (omega arith) (omega arith)
+      (then (single_named at (body_start at) (before + 1)) (λ e. yes {a = Pattern.group e}))
+  body_named sequenceKind at before = then (several_named at before) (λ ms. yes {a = Pattern.sequence ms})
+  body_named alternationKind at before = then (several_named at before) (λ ms. yes {a = Pattern.alternation ms})
+  body_named repeatKind at before =
+      let start = body_start at in
       let least = number_at bs start in
       let most = number_at bs (start + 2) in
       let mode = number_at bs (start + 4) in
-      asked (leb repeatHead (bodyLength bs at)) brokenRecord at (omega arith) (omega arith)
-      (asked (repeatNumbersRight least most mode) repeatWrong at (omega arith) (omega arith)
-      (then (single-named at (start + repeatHead) before) (λ e. yes {a = Pattern.repeat least (upperOf most) (mode_of mode) e})))
+      asked (leb repeat_head (body_length bs at)) broken_record at (omega arith) (omega arith)
+      (asked (repeat_numbers_right least most mode) repeat_wrong at (omega arith) (omega arith)
+      (then (single_named at (start + repeat_head) before) (λ e. yes {a = Pattern.repeat least (upper_of most) (mode_of mode) e})))
 
-record-named : (left : ℕ) (bs : List ℕ) (at stop before : ℕ) → Named (walkRecord left bs at stop before)
-record-named zero bs at stop before = then (header-named bs at stop) (λ kind. no {A = Pattern} {number = tooDeep} {place = at} (omega arith) (omega arith))
-record-named (suc left) bs at stop before =
-    then (header-named bs at stop) (λ kind. body-named (walkRecord left bs) (record-named left bs) bs kind at before)
+record_named : (left : ℕ) (bs : List ℕ) (at stop before : ℕ) → Named (walk_record left bs at stop before)
+record_named zero bs at stop before = then (header_named bs at stop) (λ kind. no {A = Pattern} {number = too_deep} {place = at} (omega arith) (omega arith))
+record_named (suc left) bs at stop before =
+    then (header_named bs at stop) (λ kind. body_named (walk_record left bs) (record_named left bs) bs kind at before)
 
-pattern-named : (bs : List ℕ) → Named (patternOf bs)
-pattern-named bs =
-    asked (leb (length bs) patternBytes) patternTooLong 0 (omega arith) (omega arith)
-    (then (record-named patternLevels bs 0 (length bs) 0) (λ e.
-    asked (eqb (bodyEnd bs 0) (length bs)) brokenRecord (bodyEnd bs 0) (omega arith) (omega arith)
-    (asked (leb (allPlaces e) patternPlaces) tooManyPlaces 0 (omega arith) (omega arith) (yes {a = e}))))
+pattern_named : (bs : List ℕ) → Named (pattern_of bs)
+pattern_named bs =
+    asked (leb (length bs) pattern_bytes) pattern_too_long 0 (omega arith) (omega arith)
+    (then (record_named pattern_levels bs 0 (length bs) 0) (λ e.
+    asked (eqb (body_end bs 0) (length bs)) broken_record (body_end bs 0) (omega arith) (omega arith)
+    (asked (leb (all_places e) pattern_places) too_many_places 0 (omega arith) (omega arith) (yes {a = e}))))
 
 -- a pattern's refusals
-pub pattern-numbered : (bs : List ℕ) → Numbered (patternOf bs)
-pattern-numbered bs = (pattern-named bs).numbered
+pub pattern_numbered : (bs : List ℕ) → Numbered (pattern_of bs)
+pattern_numbered bs = (pattern_named bs).numbered
 
 -- the refusals of checking
-pub check-numbered : (bs : List ℕ) → Numbered (check bs)
-check-numbered bs = (then (pattern-named bs) (λ e. yes {a = numbersOf e})).numbered
+pub check_numbered : (bs : List ℕ) → Numbered (check bs)
+check_numbered bs = (then (pattern_named bs) (λ e. yes {a = numbers_of e})).numbered
 
 -- A line
 
-line-named : (line table : List ℕ) → Named (lineAndTable line table)
-line-named line table =
-    asked (leb (length line) lineBytes) lineTooLong 0 (omega arith) (omega arith) (test (leb tableNumbers (length table)) tableTooShort 0 (omega arith) (omega arith))
+line_named : (line table : List ℕ) → Named (line_and_table line table)
+line_named line table =
+    asked (leb (length line) line_bytes) line_too_long 0 (omega arith) (omega arith) (test (leb table_numbers (length table)) table_too_short 0 (omega arith) (omega arith))
 
-counted-named : (rows : Option Rows) (steps : ℕ) → Named (told (counted rows steps))
-counted-named rows steps = look (leb steps stepLimit)
+counted_named : (rows : Option Rows) (steps : ℕ) → Named (told (counted rows steps))
+counted_named rows steps = look (leb steps step_limit)
   where
-    look : (b : Bool) → Named (told (holds b tooManySteps 0 >> accepted (record { rows = rows; steps = steps })))
+    look : (b : Bool) → Named (told (holds b too_many_steps 0 >> accepted (record { rows = rows; steps = steps })))
     look true = record { numbered = tt }
     look false = no (omega arith) (omega arith)
 
 -- the tests of a call in front of what it tells
-told-after : {A : Type 0} {c : Checked A} (next : Checked Found) → Named c → Named (told next) → Named (told (c >> next))
-told-after {c = refused number place} next h k = record { numbered = h.numbered }
-told-after {c = accepted a} next h k = k
+told_after : {A : Type 0} {c : Checked A} (next : Checked Found) → Named c → Named (told next) → Named (told (c >> next))
+told_after {c = refused number place} next h k = record { numbered = h.numbered }
+told_after {c = accepted a} next h k = k
 
-told-then : {A : Type 0} {c : Checked A} (next : A → Checked Found) → Named c → ((a : A) → Named (told (next a))) → Named (told (c >>= next))
-told-then {c = refused number place} next h k = record { numbered = h.numbered }
-told-then {c = accepted a} next h k = k a
+told_then : {A : Type 0} {c : Checked A} (next : A → Checked Found) → Named c → ((a : A) → Named (told (next a))) → Named (told (c >>= next))
+told_then {c = refused number place} next h k = record { numbered = h.numbered }
+told_then {c = accepted a} next h k = k a
 
 -- the refusals of a whole match and of a search
-pub match-numbered : (pattern line table : List ℕ) → Numbered (told (matchCall pattern line table))
-match-numbered pattern line table =
-    (told-then (λ e. lineAndTable line table >> counted (wholeMatch e line) (matchSteps e line)) (pattern-named pattern)
-    (λ e. told-after (counted (wholeMatch e line) (matchSteps e line)) (line-named line table) (counted-named (wholeMatch e line) (matchSteps e line)))).numbered
+pub match_numbered : (pattern line table : List ℕ) → Numbered (told (match_call pattern line table))
+match_numbered pattern line table =
+    (told_then (λ e. line_and_table line table >> counted (whole_match e line) (match_steps e line)) (pattern_named pattern)
+    (λ e. told_after (counted (whole_match e line) (match_steps e line)) (line_named line table) (counted_named (whole_match e line) (match_steps e line)))).numbered
 
-pub search-numbered : (pattern line table : List ℕ) → Numbered (told (searchCall pattern line table))
-search-numbered pattern line table =
-    (told-then (λ e. lineAndTable line table >> counted (search e line) (searchSteps e line)) (pattern-named pattern)
-    (λ e. told-after (counted (search e line) (searchSteps e line)) (line-named line table) (counted-named (search e line) (searchSteps e line)))).numbered
+pub search_numbered : (pattern line table : List ℕ) → Numbered (told (search_call pattern line table))
+search_numbered pattern line table =
+    (told_then (λ e. line_and_table line table >> counted (search e line) (search_steps e line)) (pattern_named pattern)
+    (λ e. told_after (counted (search e line) (search_steps e line)) (line_named line table) (counted_named (search e line) (search_steps e line)))).numbered
 
 -- A template
 
-literal-named : (bs : List ℕ) (at : ℕ) → Named (literalAt bs at)
-literal-named bs at = asked (leb 1 (bodyLength bs at)) templateWrong at (omega arith) (omega arith) (yes {a = literal at (bodyStart at) (bodyEnd bs at)})
+literal_named : (bs : List ℕ) (at : ℕ) → Named (literal_at bs at)
+literal_named bs at = asked (leb 1 (body_length bs at)) template_wrong at (omega arith) (omega arith) (yes {a = literal at (body_start at) (body_end bs at)})
 
-reference-named : (bs : List ℕ) (at : ℕ) → Named (referenceAt bs at)
-reference-named bs at =
-    let row = number_at bs (bodyStart at) in
-    asked (eqb (bodyLength bs at) 2 && leb row patternGroups) templateWrong at (omega arith) (omega arith) (yes {a = reference at row})
+reference_named : (bs : List ℕ) (at : ℕ) → Named (reference_at bs at)
+reference_named bs at =
+    let row = number_at bs (body_start at) in
+    asked (eqb (body_length bs at) 2 && leb row pattern_groups) template_wrong at (omega arith) (omega arith) (yes {a = reference at row})
 
-piece-named : (bs : List ℕ) (at : ℕ) → Named (piece_at bs at)
-piece-named bs at =
-    asked (leb (bodyEnd bs at) (length bs)) templateWrong at (omega arith) (omega arith)
-    (either (eqb (kind_at bs at) literalKind) (literal-named bs at)
-    (either (eqb (kind_at bs at) referenceKind) (reference-named bs at) (no {A = Piece} {number = templateWrong} {place = at} (omega arith) (omega arith))))
+piece_named : (bs : List ℕ) (at : ℕ) → Named (piece_at bs at)
+piece_named bs at =
+    asked (leb (body_end bs at) (length bs)) template_wrong at (omega arith) (omega arith)
+    (either (eqb (kind_at bs at) literal_kind) (literal_named bs at)
+    (either (eqb (kind_at bs at) reference_kind) (reference_named bs at) (no {A = Piece} {number = template_wrong} {place = at} (omega arith) (omega arith))))
 
-pieces-named : (turns : ℕ) (bs : List ℕ) (at : ℕ) → Named (piecesFrom turns bs at)
-pieces-named zero bs at = yes
-pieces-named (suc turns) bs at =
-    either (ltb at (length bs)) (then (piece-named bs at) (λ piece. then (pieces-named turns bs (bodyEnd bs at)) (λ rest. yes {a = piece ∷ rest}))) (yes {a = []})
+pieces_named : (turns : ℕ) (bs : List ℕ) (at : ℕ) → Named (pieces_from turns bs at)
+pieces_named zero bs at = yes
+pieces_named (suc turns) bs at =
+    either (ltb at (length bs)) (then (piece_named bs at) (λ piece. then (pieces_named turns bs (body_end bs at)) (λ rest. yes {a = piece ∷ rest}))) (yes {a = []})
 
-row_named : (size start end : ℕ) → Named (rowSpan size start end)
+row_named : (size start end : ℕ) → Named (row_span size start end)
 row_named size start end =
-    either (isAbsent start end) (yes {a = record { source = fromLine; start = 0; end = 0 }})
-    (asked (leb start end && leb end size) rowWrong 0 (omega arith) (omega arith) (yes {a = record { source = fromLine; start = start; end = end }}))
+    either (is_absent start end) (yes {a = record { source = fromLine; start = 0; end = 0 }})
+    (asked (leb start end && leb end size) row_wrong 0 (omega arith) (omega arith) (yes {a = record { source = fromLine; start = start; end = end }}))
 
-span-named : (pieces : List Piece) (n size : ℕ) (table : Rows) → Named (spanAt pieces n size table)
-span-named [] n size table = no (omega arith) (omega arith)
-span-named (literal at start end ∷ rest) zero size table = yes
-span-named (reference at row ∷ rest) zero size table = row_named size (rowStart row table) (rowEnd row table)
-span-named (piece ∷ rest) (suc n) size table = span-named rest n size table
+span_named : (pieces : List Piece) (n size : ℕ) (table : Rows) → Named (span_at pieces n size table)
+span_named [] n size table = no (omega arith) (omega arith)
+span_named (literal at start end ∷ rest) zero size table = yes
+span_named (reference at row ∷ rest) zero size table = row_named size (row_start row table) (row_end row table)
+span_named (piece ∷ rest) (suc n) size table = span_named rest n size table
 
-template-named : (bs : List ℕ) → Named (templateOf bs)
-template-named bs = asked (leb (length bs) templateBytes) templateWrong 0 (omega arith) (omega arith) (pieces-named (length bs) bs 0)
+template_named : (bs : List ℕ) → Named (template_of bs)
+template_named bs = asked (leb (length bs) template_bytes) template_wrong 0 (omega arith) (omega arith) (pieces_named (length bs) bs 0)
 
 -- the refusals of a piece
-pub piece-numbered : (template line table : List ℕ) (n : ℕ) → Numbered (pieceCall template line table n)
-piece-numbered template line table n =
-    (then (template-named template) (λ pieces. after (line-named line table) (span-named pieces n (length line) table))).numbered
+pub piece_numbered : (template line table : List ℕ) (n : ℕ) → Numbered (piece_call template line table n)
+piece_numbered template line table n =
+    (then (template_named template) (λ pieces. after (line_named line table) (span_named pieces n (length line) table))).numbered
 
-within-named : (pieces : List Piece) (many : ℕ) → Named (within pieces many)
-within-named [] many = yes
-within-named (literal at start end ∷ rest) many = within-named rest many
-within-named (reference at row ∷ rest) many = asked (leb row many) referenceTooHigh at (omega arith) (omega arith) (within-named rest many)
+within_named : (pieces : List Piece) (many : ℕ) → Named (within pieces many)
+within_named [] many = yes
+within_named (literal at start end ∷ rest) many = within_named rest many
+within_named (reference at row ∷ rest) many = asked (leb row many) reference_too_high at (omega arith) (omega arith) (within_named rest many)
 
-replacing-named : (pattern template line buffer : List ℕ) → Named (replaceCall pattern template line buffer)
-replacing-named pattern template line buffer =
-    then (pattern-named pattern) (λ e. then (template-named template) (λ pieces.
-    after (within-named pieces (groups e))
-    (asked (leb (length line) lineBytes) lineTooLong 0 (omega arith) (omega arith)
-    (asked (leb (length (replaceAll e template pieces line).output) (length buffer)) outputTooLong 0 (omega arith) (omega arith)
-    (yes {a = replaceAll e template pieces line})))))
+replacing_named : (pattern template line buffer : List ℕ) → Named (replace_call pattern template line buffer)
+replacing_named pattern template line buffer =
+    then (pattern_named pattern) (λ e. then (template_named template) (λ pieces.
+    after (within_named pieces (groups e))
+    (asked (leb (length line) line_bytes) line_too_long 0 (omega arith) (omega arith)
+    (asked (leb (length (replace_all e template pieces line).output) (length buffer)) output_too_long 0 (omega arith) (omega arith)
+    (yes {a = replace_all e template pieces line})))))
 
 -- the refusals of replace-all
-pub replace-numbered : (pattern template line buffer : List ℕ) → Numbered (replaceAnswer (replaceCall pattern template line buffer))
-replace-numbered pattern template line buffer =
-    (then (replacing-named pattern template line buffer)
-    (λ s. yes {A = Replaced} {a = record { outputLength = length s.output; replaced = s.replaced; steps = s.steps }})).numbered
+pub replace_numbered : (pattern template line buffer : List ℕ) → Numbered (replace_answer (replace_call pattern template line buffer))
+replace_numbered pattern template line buffer =
+    (then (replacing_named pattern template line buffer)
+    (λ s. yes {A = Replaced} {a = record { output_length = length s.output; replaced = s.replaced; steps = s.steps }})).numbered

@@ -18,28 +18,28 @@ Numbered (refused number place) = (1 ≤ number) × (number ≤ 16)
 Numbered (accepted a) = Unit {0}
 
 -- the status of an answer
-abbrev pub statusOf : Checked (List ℕ) → ℕ
-statusOf (refused number place) = number
-statusOf (accepted numbers) = answered
+abbrev pub status_of : Checked (List ℕ) → ℕ
+status_of (refused number place) = number
+status_of (accepted numbers) = answered
 
 -- numbers at the front of a list; those after them stay
-abbrev pub atFront : List ℕ → List ℕ → List ℕ
-atFront numbers out = numbers ++ drop (length numbers) out
+abbrev pub at_front : List ℕ → List ℕ → List ℕ
+at_front numbers out = numbers ++ drop (length numbers) out
 
 -- `out` after an answer: its numbers, or a refusal's place
-abbrev pub outAfter : Checked (List ℕ) → List ℕ → List ℕ
-outAfter (refused number place) out = atFront (place ∷ []) out
-outAfter (accepted numbers) out = atFront numbers out
+abbrev pub out_after : Checked (List ℕ) → List ℕ → List ℕ
+out_after (refused number place) out = at_front (place ∷ []) out
+out_after (accepted numbers) out = at_front numbers out
 
 -- an answer is told
 pub record Tells (answer : Checked (List ℕ)) (out : List ℕ) (status : ℕ) (after : List ℕ) : Type 0 where
   pub numbered : Numbered answer
-  pub status-is : status ≡ statusOf answer
-  pub out-is : after ≡ outAfter answer out
+  pub status_is : status ≡ status_of answer
+  pub out_is : after ≡ out_after answer out
 
 -- the numbers of each answer, in their order: places, depth, groups
-abbrev pub checkNumbers : Checked Numbers → Checked (List ℕ)
-checkNumbers answer = answer >>= λ n. accepted (n.places ∷ n.depth ∷ n.groups ∷ [])
+abbrev pub check_numbers : Checked Numbers → Checked (List ℕ)
+check_numbers answer = answer >>= λ n. accepted (n.places ∷ n.depth ∷ n.groups ∷ [])
 
 -- 1 for yes, 0 for no
 abbrev pub flag : Bool → ℕ
@@ -47,22 +47,22 @@ flag true = 1
 flag false = 0
 
 -- whether there is a match, and the steps
-abbrev pub foundNumbers : Checked Told → Checked (List ℕ)
-foundNumbers answer = answer >>= λ t. accepted (flag t.matched ∷ t.steps ∷ [])
+abbrev pub found_numbers : Checked Told → Checked (List ℕ)
+found_numbers answer = answer >>= λ t. accepted (flag t.matched ∷ t.steps ∷ [])
 
 -- where the part stands, its start and its end
-abbrev pub sourceNumber : Source → ℕ
-sourceNumber fromTemplate = 0
-sourceNumber fromLine = 1
+abbrev pub source_number : Source → ℕ
+source_number fromTemplate = 0
+source_number fromLine = 1
 
-abbrev pub spanNumbers : Checked Span → Checked (List ℕ)
-spanNumbers answer = answer >>= λ s. accepted (sourceNumber s.source ∷ s.start ∷ s.end ∷ [])
+abbrev pub span_numbers : Checked Span → Checked (List ℕ)
+span_numbers answer = answer >>= λ s. accepted (source_number s.source ∷ s.start ∷ s.end ∷ [])
 
 -- the output's length, the replacements and the steps
-abbrev pub replacedNumbers : Checked Replaced → Checked (List ℕ)
-replacedNumbers answer = answer >>= λ s. accepted (s.outputLength ∷ s.replaced ∷ s.steps ∷ [])
+abbrev pub replaced_numbers : Checked Replaced → Checked (List ℕ)
+replaced_numbers answer = answer >>= λ s. accepted (s.output_length ∷ s.replaced ∷ s.steps ∷ [])
 
 -- a built machine's places and depth, and the pattern's groups
-abbrev pub builtNumbers : Built → Checked (List ℕ)
-builtNumbers (Refused number place) = refused number place
-builtNumbers (Machine places deep many) = accepted (places ∷ deep ∷ many ∷ [])
+abbrev pub built_numbers : Built → Checked (List ℕ)
+built_numbers (Refused number place) = refused number place
+built_numbers (Machine places deep many) = accepted (places ∷ deep ∷ many ∷ [])

@@ -6,7 +6,7 @@ ghost use Rattle.pattern.specs.Answer as checked;
 ghost use Rattle.matcher.specs.Answer as found;
 ghost use Rattle.template.specs.Answer as piece;
 ghost use Rattle.replacer.specs.Answer as replaced;
-ghost use Rattle.telling.specs.Told.{Numbered, Tells, checkNumbers, foundNumbers, spanNumbers, replacedNumbers, builtNumbers};
+ghost use Rattle.telling.specs.Told.{Numbered, Tells, check_numbers, found_numbers, span_numbers, replaced_numbers, built_numbers};
 
 // The status of an answer, which is no refusal's number.
 #[derive(Drop)]
@@ -49,7 +49,7 @@ fn three(a: usize, b: usize, c: usize, out: &mut [u64]) -> u32
 // What checking answered.
 pub fn tell_checked(answer: pattern::Answer, out: &mut [u64]) -> u32
     requires { Numbered (checked.answer_of answer) × (3 ≤ length out.old) }
-    ensures { Tells (checkNumbers (checked.answer_of answer)) out.old result out.new }
+    ensures { Tells (check_numbers (checked.answer_of answer)) out.old result out.new }
 {
     match answer {
         pattern::Answer::Refused { number, place } => refusal(number, place, out),
@@ -64,7 +64,7 @@ pub fn tell_checked(answer: pattern::Answer, out: &mut [u64]) -> u32
 // What a whole match or a search answered.
 pub fn tell_found(answer: matcher::Answer, out: &mut [u64]) -> u32
     requires { Numbered (found.answer_of answer) × (2 ≤ length out.old) }
-    ensures { Tells (foundNumbers (found.answer_of answer)) out.old result out.new }
+    ensures { Tells (found_numbers (found.answer_of answer)) out.old result out.new }
 {
     match answer {
         matcher::Answer::Refused { number, place } => refusal(number, place, out),
@@ -76,7 +76,7 @@ pub fn tell_found(answer: matcher::Answer, out: &mut [u64]) -> u32
 // What a piece is.
 pub fn tell_piece(answer: template::Answer, out: &mut [u64]) -> u32
     requires { Numbered (piece.answer_of answer) × (3 ≤ length out.old) }
-    ensures { Tells (spanNumbers (piece.answer_of answer)) out.old result out.new }
+    ensures { Tells (span_numbers (piece.answer_of answer)) out.old result out.new }
 {
     match answer {
         template::Answer::Refused { number, place } => refusal(number, place, out),
@@ -88,7 +88,7 @@ pub fn tell_piece(answer: template::Answer, out: &mut [u64]) -> u32
 // What replace-all answered.
 pub fn tell_replaced(answer: replacer::Replaced, out: &mut [u64]) -> u32
     requires { Numbered (replaced.answer_of answer) × (3 ≤ length out.old) }
-    ensures { Tells (replacedNumbers (replaced.answer_of answer)) out.old result out.new }
+    ensures { Tells (replaced_numbers (replaced.answer_of answer)) out.old result out.new }
 {
     match answer {
         replacer::Replaced::Refused { number, place } => refusal(number, place, out),
@@ -102,8 +102,8 @@ pub fn tell_replaced(answer: replacer::Replaced, out: &mut [u64]) -> u32
 
 // What building answered.
 pub fn tell_built(answer: machine::Built, out: &mut [u64]) -> u32
-    requires { Numbered (builtNumbers answer) × (3 ≤ length out.old) }
-    ensures { Tells (builtNumbers answer) out.old result out.new }
+    requires { Numbered (built_numbers answer) × (3 ≤ length out.old) }
+    ensures { Tells (built_numbers answer) out.old result out.new }
 {
     match answer {
         machine::Built::Refused { number, place } => refusal(number, place, out),

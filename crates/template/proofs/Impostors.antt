@@ -8,23 +8,23 @@ use denote.Ref.{Bor}
 use lib.ListN.{length}
 use Rattle.paper.specs.Refusal.{Checked, refused, accepted}
 use Rattle.paper.specs.Rows.{no_rows}
-use Rattle.paper.specs.PieceCalls.{Span, pieceCall, partCall}
+use Rattle.paper.specs.PieceCalls.{Span, piece_call, part_call}
 use Rattle.template.specs.declared.Answer.{Answer}
 use Rattle.template.specs.Answer.{answer_of, IsPart}
 
-abbrev isAccepted : Checked Span → Bool
-isAccepted (refused number place) = false
-isAccepted (accepted span) = true
+abbrev is_accepted : Checked Span → Bool
+is_accepted (refused number place) = false
+is_accepted (accepted span) = true
 
 -- the literal "-"
 abbrev dash : List ℕ
 dash = 1 ∷ 0 ∷ 32 ∷ 0 ∷ 45 ∷ []
 
-pub refuses-all : (number place : ℕ) → answer_of (Answer.Refused number place) ≡ pieceCall dash [] no_rows 0 → ⊥
-refuses-all number place p = true≢false (sym (ap isAccepted p))
+pub refuses_all : (number place : ℕ) → answer_of (Answer.Refused number place) ≡ piece_call dash [] no_rows 0 → ⊥
+refuses_all number place p = true≢false (sym (ap is_accepted p))
 
-pub always-empty : (template line part : Bor (List ℕ)) → template.now ≡ dash → IsPart (pieceCall dash [] no_rows 0) template line part → part.now ≡ [] → ⊥
-always-empty template line part is p empty =
+pub always_empty : (template line part : Bor (List ℕ)) → template.now ≡ dash → IsPart (piece_call dash [] no_rows 0) template line part → part.now ≡ [] → ⊥
+always_empty template line part is p empty =
     let wrong : ◌≡◌ {A = ℕ} 0 1 =
-    ap length (sym empty ∙ p.bytes) ∙ ap (λ (t : List ℕ). length (partCall (pieceCall dash [] no_rows 0) t line.now)) is in
+    ap length (sym empty ∙ p.bytes) ∙ ap (λ (t : List ℕ). length (part_call (piece_call dash [] no_rows 0) t line.now)) is in
     omega arith

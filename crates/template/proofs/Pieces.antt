@@ -8,39 +8,39 @@ use mathlib.Core.List.{List, [], ◌∷◌}
 use lib.Dec.{leb, eqb}
 use lib.ListN.{length, get_or, drop}
 use borrow.Author.Tests.{le-leb, lt-leb, eq-eqb, ne_eqb, leb-true}
-use Rattle.paper.specs.Limits.{patternGroups, lineBytes, tableNumbers, absent}
-use Rattle.paper.specs.Refusal.{Checked, refused, accepted, ◌>>=◌, ◌>>◌, holds, templateWrong, lineTooLong, tableTooShort, rowWrong, noSuchPiece}
-use Rattle.paper.specs.Rows.{Rows, rowStart, rowEnd}
-use Rattle.paper.specs.Match.{lineAndTable}
-use Rattle.paper.specs.Check.{number_at, bodyLength, kind_at, bodyStart, bodyEnd}
-use Rattle.paper.specs.Template.{Piece, literal, reference, literalKind, referenceKind, piece_at, templateOf}
-use Rattle.paper.specs.PieceCalls.{Span, fromTemplate, fromLine, isAbsent, rowSpan, span_of, spanAt, pieceCall, sourceBytes}
+use Rattle.paper.specs.Limits.{pattern_groups, line_bytes, table_numbers, absent}
+use Rattle.paper.specs.Refusal.{Checked, refused, accepted, ◌>>=◌, ◌>>◌, holds, template_wrong, line_too_long, table_too_short, row_wrong, no_such_piece}
+use Rattle.paper.specs.Rows.{Rows, row_start, row_end}
+use Rattle.paper.specs.Match.{line_and_table}
+use Rattle.paper.specs.Check.{number_at, body_length, kind_at, body_start, body_end}
+use Rattle.paper.specs.Template.{Piece, literal, reference, literal_kind, reference_kind, piece_at, template_of}
+use Rattle.paper.specs.PieceCalls.{Span, fromTemplate, fromLine, is_absent, row_span, span_of, span_at, piece_call, source_bytes}
 use Rattle.template.specs.declared.Record.{Record}
 use Rattle.template.specs.Record.{Shows, From}
-use Rattle.template.proofs.Records.{never, piece-ends, from-template, nth-from, wrong-from}
+use Rattle.template.proofs.Records.{never, piece_ends, from_template, nth_from, wrong_from}
 
 -- ---- a row
 
 module _ (size start end : ℕ) where
-  pub row-absent : start ≡ absent → end ≡ absent → accepted (record { source = fromLine; start = 0; end = 0 }) ≡ rowSpan size start end
-  row-absent s e = rw (eq-eqb start absent s, eq-eqb end absent e)
+  pub row_absent : start ≡ absent → end ≡ absent → accepted (record { source = fromLine; start = 0; end = 0 }) ≡ row_span size start end
+  row_absent s e = rw (eq-eqb start absent s, eq-eqb end absent e)
 
   -- a row of which one number is not 65,535 is there
-  pub start-there : (start ≡ absent → ⊥) → isAbsent start end ≡ false
-  start-there other = rw (ne_eqb start absent other)
+  pub start_there : (start ≡ absent → ⊥) → is_absent start end ≡ false
+  start_there other = rw (ne_eqb start absent other)
 
-  pub end-there : (end ≡ absent → ⊥) → isAbsent start end ≡ false
-  end-there other = rw (ne_eqb end absent other) (and-false (eqb start absent))
+  pub end_there : (end ≡ absent → ⊥) → is_absent start end ≡ false
+  end_there other = rw (ne_eqb end absent other) (and-false (eqb start absent))
 
-  pub row-right : isAbsent start end ≡ false → start ≤ end → end ≤ size
-      → accepted (record { source = fromLine; start = start; end = end }) ≡ rowSpan size start end
-  row-right there up fits = rw (there, le-leb start end up, le-leb end size fits)
+  pub row_right : is_absent start end ≡ false → start ≤ end → end ≤ size
+      → accepted (record { source = fromLine; start = start; end = end }) ≡ row_span size start end
+  row_right there up fits = rw (there, le-leb start end up, le-leb end size fits)
 
-  pub row-long : isAbsent start end ≡ false → start ≤ end → size < end → refused rowWrong 0 ≡ rowSpan size start end
-  row-long there up past = rw (there, le-leb start end up, lt-leb end size past)
+  pub row_long : is_absent start end ≡ false → start ≤ end → size < end → refused row_wrong 0 ≡ row_span size start end
+  row_long there up past = rw (there, le-leb start end up, lt-leb end size past)
 
-  pub row-turned : isAbsent start end ≡ false → end < start → refused rowWrong 0 ≡ rowSpan size start end
-  row-turned there down = rw (there, lt-leb start end down)
+  pub row_turned : is_absent start end ≡ false → end < start → refused row_wrong 0 ≡ row_span size start end
+  row_turned there down = rw (there, lt-leb start end down)
 
 -- what stands in a list at an index does not hang on what would stand past its end
 get_d_any : (l : List ℕ) (i a b : ℕ) → i < length l → get_or l i a ≡ get_or l i b
@@ -49,102 +49,102 @@ get_d_any (x ∷ l) zero a b low = refl
 get_d_any (x ∷ l) (suc i) a b low = get_d_any l i a b (omega arith)
 
 -- a row's two numbers, as they are read out of a table that is long enough
-pub row_read : (size row : ℕ) (table : List ℕ) → row ≤ patternGroups → tableNumbers ≤ length table
-    → rowSpan size (get_or table (2 * row) 0) (get_or table (2 * row + 1) 0) ≡ rowSpan size (rowStart row table) (rowEnd row table)
+pub row_read : (size row : ℕ) (table : List ℕ) → row ≤ pattern_groups → table_numbers ≤ length table
+    → row_span size (get_or table (2 * row) 0) (get_or table (2 * row + 1) 0) ≡ row_span size (row_start row table) (row_end row table)
 row_read size row table low long =
-    ap₂ (rowSpan size) (get_d_any table (2 * row) 0 absent (omega arith)) (get_d_any table (2 * row + 1) 0 absent (omega arith))
+    ap₂ (row_span size) (get_d_any table (2 * row) 0 absent (omega arith)) (get_d_any table (2 * row + 1) 0 absent (omega arith))
 
 -- ---- the record of a number
 
-spanAt-nth : (number : ℕ) (pieces : List Piece) (first : Piece) (rest : List Piece) → drop number pieces ≡ first ∷ rest
-    → (size : ℕ) (table : Rows) → spanAt pieces number size table ≡ span_of first size table
-spanAt-nth zero [] first rest is size table = cc
-spanAt-nth (suc n) [] first rest is size table = cc
-spanAt-nth zero (piece ∷ pieces) first rest is size table =
+span_at_nth : (number : ℕ) (pieces : List Piece) (first : Piece) (rest : List Piece) → drop number pieces ≡ first ∷ rest
+    → (size : ℕ) (table : Rows) → span_at pieces number size table ≡ span_of first size table
+span_at_nth zero [] first rest is size table = cc
+span_at_nth (suc n) [] first rest is size table = cc
+span_at_nth zero (piece ∷ pieces) first rest is size table =
     let same : piece ≡ first = cc in
     ap (λ (p : Piece). span_of p size table) same
-spanAt-nth (suc n) (piece ∷ pieces) first rest is size table = spanAt-nth n pieces first rest is size table
+span_at_nth (suc n) (piece ∷ pieces) first rest is size table = span_at_nth n pieces first rest is size table
 
 -- the offset is that of the record of a number that there is
 module _ (bs : List ℕ) (at number : ℕ) (pieces : List Piece) (from : From bs at (drop number pieces)) (low : number < length pieces) where
   pub nth_inside : at ≤ length bs
-  nth_inside = omega (arith, (nth-from bs at number pieces from low).4)
+  nth_inside = omega (arith, (nth_from bs at number pieces from low).4)
 
   -- it puts in what the record there puts in
-  pub nth-span : (piece : Piece) → piece_at bs at ≡ accepted piece → (size : ℕ) (table : Rows) → span_of piece size table ≡ spanAt pieces number size table
-  nth-span piece is size table =
-      let (first, rest, here, next, before, there, behind) = nth-from bs at number pieces from low in
+  pub nth_span : (piece : Piece) → piece_at bs at ≡ accepted piece → (size : ℕ) (table : Rows) → span_of piece size table ≡ span_at pieces number size table
+  nth_span piece is size table =
+      let (first, rest, here, next, before, there, behind) = nth_from bs at number pieces from low in
       let same : piece ≡ first = cc in
-      ap (λ (p : Piece). span_of p size table) same ∙ sym (spanAt-nth number pieces first rest here size table)
+      ap (λ (p : Piece). span_of p size table) same ∙ sym (span_at_nth number pieces first rest here size table)
 
   -- which is no wrong one
   pub nth_right : Shows bs at Record.Wrong → ⊥
-  nth_right wrong = wrong-from bs at (drop number pieces) from (nth-from bs at number pieces from low).4 wrong
+  nth_right wrong = wrong_from bs at (drop number pieces) from (nth_from bs at number pieces from low).4 wrong
 
 -- past the last there is none
-spanAt-past : (pieces : List Piece) (number : ℕ) → length pieces ≤ number
-    → (size : ℕ) (table : Rows) → spanAt pieces number size table ≡ refused noSuchPiece 0
-spanAt-past [] number past size table = refl
-spanAt-past (piece ∷ pieces) zero past size table = absurd (omega arith)
-spanAt-past (piece ∷ pieces) (suc n) past size table = spanAt-past pieces n (omega arith) size table
+span_at_past : (pieces : List Piece) (number : ℕ) → length pieces ≤ number
+    → (size : ℕ) (table : Rows) → span_at pieces number size table ≡ refused no_such_piece 0
+span_at_past [] number past size table = refl
+span_at_past (piece ∷ pieces) zero past size table = absurd (omega arith)
+span_at_past (piece ∷ pieces) (suc n) past size table = span_at_past pieces n (omega arith) size table
 
 -- ---- the call, by its tests in their order
 
 module _ (template line table : List ℕ) (number : ℕ) where
-  by-template : (found : Checked (List Piece)) → templateOf template ≡ found
-      → (found >>= λ pieces. lineAndTable line table >> spanAt pieces number (length line) table) ≡ pieceCall template line table number
-  by-template found is = ap (λ (t : Checked (List Piece)). t >>= λ pieces. lineAndTable line table >> spanAt pieces number (length line) table) (sym is)
+  by_template : (found : Checked (List Piece)) → template_of template ≡ found
+      → (found >>= λ pieces. line_and_table line table >> span_at pieces number (length line) table) ≡ piece_call template line table number
+  by_template found is = ap (λ (t : Checked (List Piece)). t >>= λ pieces. line_and_table line table >> span_at pieces number (length line) table) (sym is)
 
-  pub call-9 : (place : ℕ) → templateOf template ≡ refused templateWrong place → refused templateWrong place ≡ pieceCall template line table number
-  call-9 place is = by-template (refused templateWrong place) is
+  pub call_9 : (place : ℕ) → template_of template ≡ refused template_wrong place → refused template_wrong place ≡ piece_call template line table number
+  call_9 place is = by_template (refused template_wrong place) is
 
-  module _ (pieces : List Piece) (is : templateOf template ≡ accepted pieces) where
-    pub call-11 : lineBytes < length line → refused lineTooLong 0 ≡ pieceCall template line table number
-    call-11 long = sym (by-lt long) ∙ by-template (accepted pieces) is
+  module _ (pieces : List Piece) (is : template_of template ≡ accepted pieces) where
+    pub call_11 : line_bytes < length line → refused line_too_long 0 ≡ piece_call template line table number
+    call_11 long = sym (by_lt long) ∙ by_template (accepted pieces) is
       where
-        by-lt : lineBytes < length line → (lineAndTable line table >> spanAt pieces number (length line) table) ≡ refused lineTooLong 0
-        by-lt long = rw (lt-leb (length line) lineBytes long)
+        by_lt : line_bytes < length line → (line_and_table line table >> span_at pieces number (length line) table) ≡ refused line_too_long 0
+        by_lt long = rw (lt-leb (length line) line_bytes long)
 
-    module _ (fits : length line ≤ lineBytes) where
-      pub call-12 : length table < tableNumbers → refused tableTooShort 0 ≡ pieceCall template line table number
-      call-12 short = sym by_both ∙ by-template (accepted pieces) is
+    module _ (fits : length line ≤ line_bytes) where
+      pub call_12 : length table < table_numbers → refused table_too_short 0 ≡ piece_call template line table number
+      call_12 short = sym by_both ∙ by_template (accepted pieces) is
         where
-          by_both : (lineAndTable line table >> spanAt pieces number (length line) table) ≡ refused tableTooShort 0
-          by_both = rw (le-leb (length line) lineBytes fits, lt-leb tableNumbers (length table) short)
+          by_both : (line_and_table line table >> span_at pieces number (length line) table) ≡ refused table_too_short 0
+          by_both = rw (le-leb (length line) line_bytes fits, lt-leb table_numbers (length table) short)
 
       -- and what is left to the record
-      pub call-rest : tableNumbers ≤ length table → spanAt pieces number (length line) table ≡ pieceCall template line table number
-      call-rest long = sym by_both ∙ by-template (accepted pieces) is
+      pub call_rest : table_numbers ≤ length table → span_at pieces number (length line) table ≡ piece_call template line table number
+      call_rest long = sym by_both ∙ by_template (accepted pieces) is
         where
-          by_both : (lineAndTable line table >> spanAt pieces number (length line) table) ≡ spanAt pieces number (length line) table
-          by_both = rw (le-leb (length line) lineBytes fits, le-leb tableNumbers (length table) long)
+          by_both : (line_and_table line table >> span_at pieces number (length line) table) ≡ span_at pieces number (length line) table
+          by_both = rw (le-leb (length line) line_bytes fits, le-leb table_numbers (length table) long)
 
-      pub call-16 : tableNumbers ≤ length table → length pieces ≤ number → refused noSuchPiece 0 ≡ pieceCall template line table number
-      call-16 long past = sym (spanAt-past pieces number past (length line) table) ∙ call-rest long
+      pub call_16 : table_numbers ≤ length table → length pieces ≤ number → refused no_such_piece 0 ≡ piece_call template line table number
+      call_16 long past = sym (span_at_past pieces number past (length line) table) ∙ call_rest long
 
 -- ---- every part that is answered lies in its source
 
 abbrev pub Inside : List ℕ → List ℕ → Span → Type 0
-Inside template line span = (span.start ≤ span.end) × (span.end ≤ length (sourceBytes span.source template line))
+Inside template line span = (span.start ≤ span.end) × (span.end ≤ length (source_bytes span.source template line))
 
-literal-inside : (bs : List ℕ) (at place start end : ℕ) → piece_at bs at ≡ accepted (literal place start end) → (start ≤ end) × (end ≤ length bs)
-literal-inside bs at place start end is =
-    let (starts, ends) = look (leb (bodyEnd bs at) (length bs)) (eqb kind literalKind) (leb 1 (bodyLength bs at)) (eqb kind referenceKind)
-    (eqb (bodyLength bs at) 2 && leb row patternGroups) is in
-    omega (arith, starts, ends, piece-ends bs at (literal place start end) is)
+literal_inside : (bs : List ℕ) (at place start end : ℕ) → piece_at bs at ≡ accepted (literal place start end) → (start ≤ end) × (end ≤ length bs)
+literal_inside bs at place start end is =
+    let (starts, ends) = look (leb (body_end bs at) (length bs)) (eqb kind literal_kind) (leb 1 (body_length bs at)) (eqb kind reference_kind)
+    (eqb (body_length bs at) 2 && leb row pattern_groups) is in
+    omega (arith, starts, ends, piece_ends bs at (literal place start end) is)
   where
     kind : ℕ
     kind = kind_at bs at
 
     row : ℕ
-    row = number_at bs (bodyStart at)
+    row = number_at bs (body_start at)
 
     look : (whole lit some ref right : Bool)
-        → (holds whole templateWrong at
-        >> cond lit (holds some templateWrong at >> accepted (literal at (bodyStart at) (bodyEnd bs at)))
-        (cond ref (holds right templateWrong at >> accepted (reference at row)) (refused templateWrong at)))
+        → (holds whole template_wrong at
+        >> cond lit (holds some template_wrong at >> accepted (literal at (body_start at) (body_end bs at)))
+        (cond ref (holds right template_wrong at >> accepted (reference at row)) (refused template_wrong at)))
         ≡ accepted (literal place start end)
-        → (bodyStart at ≡ start) × (bodyEnd bs at ≡ end)
+        → (body_start at ≡ start) × (body_end bs at ≡ end)
     look false lit some ref right is = never is
     look true true true ref right is = (cc, cc)
     look true true false ref right is = never is
@@ -153,12 +153,12 @@ literal-inside bs at place start end is =
     look true false some false right is = never is
 
 module _ (template line : List ℕ) (span : Span) where
-  row_inside : (start end : ℕ) → rowSpan (length line) start end ≡ accepted span → Inside template line span
-  row_inside start end is = look (isAbsent start end) (leb start end) refl (leb end (length line)) refl is
+  row_inside : (start end : ℕ) → row_span (length line) start end ≡ accepted span → Inside template line span
+  row_inside start end is = look (is_absent start end) (leb start end) refl (leb end (length line)) refl is
     where
       look : (none up : Bool) → leb start end ≡ up → (fits : Bool) → leb end (length line) ≡ fits
           → cond none (accepted (record { source = fromLine; start = 0; end = 0 }))
-          (holds (up && fits) rowWrong 0 >> accepted (record { source = fromLine; start = start; end = end })) ≡ accepted span
+          (holds (up && fits) row_wrong 0 >> accepted (record { source = fromLine; start = start; end = end })) ≡ accepted span
           → Inside template line span
       look true up u fits f is =
           let same : record { source = fromLine; start = 0; end = 0 } ≡ span = cc in
@@ -173,23 +173,23 @@ module _ (template line : List ℕ) (span : Span) where
       → piece_at template at ≡ accepted piece → span_of piece (length line) table ≡ accepted span → Inside template line span
   piece_inside at (literal place start end) table here is =
       let same : record { source = fromTemplate; start = start; end = end } ≡ span = cc in
-      subst (Inside template line) same (literal-inside template at place start end here)
-  piece_inside at (reference place row) table here is = row_inside (rowStart row table) (rowEnd row table) is
+      subst (Inside template line) same (literal_inside template at place start end here)
+  piece_inside at (reference place row) table here is = row_inside (row_start row table) (row_end row table) is
 
-  pieces-inside : (pieces : List Piece) (at number : ℕ) (table : Rows)
-      → From template at pieces → spanAt pieces number (length line) table ≡ accepted span → Inside template line span
-  pieces-inside [] at number table from is = never is
-  pieces-inside (piece ∷ rest) at zero table from is = piece_inside at piece table from.1 is
-  pieces-inside (piece ∷ rest) at (suc number) table from is = pieces-inside rest (bodyEnd template at) number table from.2 is
+  pieces_inside : (pieces : List Piece) (at number : ℕ) (table : Rows)
+      → From template at pieces → span_at pieces number (length line) table ≡ accepted span → Inside template line span
+  pieces_inside [] at number table from is = never is
+  pieces_inside (piece ∷ rest) at zero table from is = piece_inside at piece table from.1 is
+  pieces_inside (piece ∷ rest) at (suc number) table from is = pieces_inside rest (body_end template at) number table from.2 is
 
   -- the call's start is at most its end, and that at most the length of the source
-  pub call-inside : (table : List ℕ) (number : ℕ) → pieceCall template line table number ≡ accepted span → Inside template line span
-  call-inside table number is = look (templateOf template) refl (leb (length line) lineBytes) (leb tableNumbers (length table)) is
+  pub call_inside : (table : List ℕ) (number : ℕ) → piece_call template line table number ≡ accepted span → Inside template line span
+  call_inside table number is = look (template_of template) refl (leb (length line) line_bytes) (leb table_numbers (length table)) is
     where
-      look : (found : Checked (List Piece)) → templateOf template ≡ found → (short long : Bool)
-          → (found >>= λ pieces. (holds short lineTooLong 0 >> holds long tableTooShort 0) >> spanAt pieces number (length line) table) ≡ accepted span
+      look : (found : Checked (List Piece)) → template_of template ≡ found → (short long : Bool)
+          → (found >>= λ pieces. (holds short line_too_long 0 >> holds long table_too_short 0) >> span_at pieces number (length line) table) ≡ accepted span
           → Inside template line span
       look (refused n p) f short long is = never is
-      look (accepted pieces) f true true is = pieces-inside pieces 0 number table (from-template template pieces f) is
+      look (accepted pieces) f true true is = pieces_inside pieces 0 number table (from_template template pieces f) is
       look (accepted pieces) f true false is = never is
       look (accepted pieces) f false long is = never is

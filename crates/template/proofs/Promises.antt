@@ -9,66 +9,66 @@ use borrow.Rule.Slice.Shared.{by_byte}
 use borrow.Rule.Slice.Prefix.{sl_ptr_p}
 use borrow.Rule.Slice.PartAt.{sl_part}
 use Rattle.paper.specs.Refusal.{Checked, refused, accepted}
-use Rattle.paper.specs.PieceCalls.{Source, fromTemplate, fromLine, Span, pieceCall}
+use Rattle.paper.specs.PieceCalls.{Source, fromTemplate, fromLine, Span, piece_call}
 use Rattle.template.specs.declared.Answer.{Answer}
-use Rattle.template.specs.Answer.{answer_of, sourceSlice, IsPart}
+use Rattle.template.specs.Answer.{answer_of, source_slice, IsPart}
 
 -- ---- the second call's answers
 
 -- a part of a slice, as the code makes it
-abbrev pub cutOut : Bor (List ℕ) → ℕ → ℕ → ℕ → Bor (List ℕ)
-cutOut slice start end name = sl_part slice (by_byte start slice.ref_ptr.1) start end name
+abbrev pub cut_out : Bor (List ℕ) → ℕ → ℕ → ℕ → Bor (List ℕ)
+cut_out slice start end name = sl_part slice (by_byte start slice.ref_ptr.1) start end name
 
 module _ (answer : Checked Span) (template line : Bor (List ℕ)) (name : ℕ) where
   -- where the call refuses, the first no bytes of the template
-  pub part-refused : (number place : ℕ) → answer ≡ refused number place → IsPart answer template line (sl_ptr_p template 0 name)
-  part-refused number place is =
+  pub part_refused : (number place : ℕ) → answer ≡ refused number place → IsPart answer template line (sl_ptr_p template 0 name)
+  part_refused number place is =
       subst (λ (a : Checked Span). IsPart a template line (sl_ptr_p template 0 name)) (sym is) (record { bytes = refl; stands = refl })
 
   -- else a part of the slice that the source names
   pub part_of : (source : Source) (start end : ℕ) → answer ≡ accepted (record { source = source; start = start; end = end })
-      → IsPart answer template line (cutOut (sourceSlice source template line) start end name)
+      → IsPart answer template line (cut_out (source_slice source template line) start end name)
   part_of source start end is =
-      subst (λ (a : Checked Span). IsPart a template line (cutOut (sourceSlice source template line) start end name)) (sym is) (by-source source)
+      subst (λ (a : Checked Span). IsPart a template line (cut_out (source_slice source template line) start end name)) (sym is) (by_source source)
     where
-      by-source : (s : Source)
-          → IsPart (accepted (record { source = s; start = start; end = end })) template line (cutOut (sourceSlice s template line) start end name)
-      by-source fromTemplate = record { bytes = refl; stands = ap (λ (n : ℕ). (template.ref_ptr.0, n)) (add_comm start template.ref_ptr.1) }
-      by-source fromLine = record { bytes = refl; stands = ap (λ (n : ℕ). (line.ref_ptr.0, n)) (add_comm start line.ref_ptr.1) }
+      by_source : (s : Source)
+          → IsPart (accepted (record { source = s; start = start; end = end })) template line (cut_out (source_slice s template line) start end name)
+      by_source fromTemplate = record { bytes = refl; stands = ap (λ (n : ℕ). (template.ref_ptr.0, n)) (add_comm start template.ref_ptr.1) }
+      by_source fromLine = record { bytes = refl; stands = ap (λ (n : ℕ). (line.ref_ptr.0, n)) (add_comm start line.ref_ptr.1) }
 
 -- ---- one answer each
 
 -- what an accepted span has
-abbrev sourceOr : Source → Checked Span → Source
-sourceOr other (refused number place) = other
-sourceOr other (accepted span) = span.source
+abbrev source_or : Source → Checked Span → Source
+source_or other (refused number place) = other
+source_or other (accepted span) = span.source
 
-abbrev startOr : ℕ → Checked Span → ℕ
-startOr other (refused number place) = other
-startOr other (accepted span) = span.start
+abbrev start_or : ℕ → Checked Span → ℕ
+start_or other (refused number place) = other
+start_or other (accepted span) = span.start
 
-abbrev endOr : ℕ → Checked Span → ℕ
-endOr other (refused number place) = other
-endOr other (accepted span) = span.end
+abbrev end_or : ℕ → Checked Span → ℕ
+end_or other (refused number place) = other
+end_or other (accepted span) = span.end
 
 -- no two answers of the first call are read alike
-pub answers-differ : (a b : Answer) → answer_of a ≡ answer_of b → a ≡ b
-answers-differ (Answer.Refused n p) (Answer.Refused m q) is = cc
-answers-differ (Answer.Refused n p) (Answer.Template s e) is = cc
-answers-differ (Answer.Refused n p) (Answer.Line s e) is = cc
-answers-differ (Answer.Template s e) (Answer.Refused n p) is = cc
-answers-differ (Answer.Template s e) (Answer.Template t f) is = ap₂ Answer.Template (ap (startOr 0) is) (ap (endOr 0) is)
-answers-differ (Answer.Template s e) (Answer.Line t f) is = cc (ap (sourceOr fromLine) is)
-answers-differ (Answer.Line s e) (Answer.Refused n p) is = cc
-answers-differ (Answer.Line s e) (Answer.Template t f) is = cc (ap (sourceOr fromLine) is)
-answers-differ (Answer.Line s e) (Answer.Line t f) is = ap₂ Answer.Line (ap (startOr 0) is) (ap (endOr 0) is)
+pub answers_differ : (a b : Answer) → answer_of a ≡ answer_of b → a ≡ b
+answers_differ (Answer.Refused n p) (Answer.Refused m q) is = cc
+answers_differ (Answer.Refused n p) (Answer.Template s e) is = cc
+answers_differ (Answer.Refused n p) (Answer.Line s e) is = cc
+answers_differ (Answer.Template s e) (Answer.Refused n p) is = cc
+answers_differ (Answer.Template s e) (Answer.Template t f) is = ap₂ Answer.Template (ap (start_or 0) is) (ap (end_or 0) is)
+answers_differ (Answer.Template s e) (Answer.Line t f) is = cc (ap (source_or fromLine) is)
+answers_differ (Answer.Line s e) (Answer.Refused n p) is = cc
+answers_differ (Answer.Line s e) (Answer.Template t f) is = cc (ap (source_or fromLine) is)
+answers_differ (Answer.Line s e) (Answer.Line t f) is = ap₂ Answer.Line (ap (start_or 0) is) (ap (end_or 0) is)
 
 -- the first call's promise allows one answer
 pub one_piece : (template line table : List ℕ) (number : ℕ) (a b : Answer)
-    → answer_of a ≡ pieceCall template line table number → answer_of b ≡ pieceCall template line table number → a ≡ b
-one_piece template line table number a b first second = answers-differ a b (first ∙ sym second)
+    → answer_of a ≡ piece_call template line table number → answer_of b ≡ piece_call template line table number → a ≡ b
+one_piece template line table number a b first second = answers_differ a b (first ∙ sym second)
 
 -- the second call's promise allows one answer: the same place and the same bytes, which are all of a reference but its ghost name
-pub one-part : (answer : Checked Span) (template line a b : Bor (List ℕ))
+pub one_part : (answer : Checked Span) (template line a b : Bor (List ℕ))
     → IsPart answer template line a → IsPart answer template line b → (a.ref_ptr ≡ b.ref_ptr) × (a.now ≡ b.now)
-one-part answer template line a b first second = (first.stands ∙ sym second.stands, first.bytes ∙ sym second.bytes)
+one_part answer template line a b first second = (first.stands ∙ sym second.stands, first.bytes ∙ sym second.bytes)

@@ -1,11 +1,11 @@
 // Templates: their records, checked and read one by one, and what a record puts in, without copying (01, "Replace-all").
 ghost use Rattle.std.specs.Prelude.{◌≡◌, List, ℕ, ◌≤◌, ◌<◌, length, drop};
-ghost use Rattle.paper.specs.Limits.{patternGroups, tableNumbers};
+ghost use Rattle.paper.specs.Limits.{pattern_groups, table_numbers};
 ghost use Rattle.paper.specs.Refusal.{accepted};
-ghost use Rattle.paper.specs.Rows.{rowStart, rowEnd};
-ghost use Rattle.paper.specs.Template.{Piece, templateOf, within};
-ghost use Rattle.paper.specs.PieceCalls.{rowSpan, spanAt, pieceCall};
-ghost use Rattle.template.specs.Record.{Shows, From, count_of, recordCount, referencesOf, referencesCall, Lawful, Numbered};
+ghost use Rattle.paper.specs.Rows.{row_start, row_end};
+ghost use Rattle.paper.specs.Template.{Piece, template_of, within};
+ghost use Rattle.paper.specs.PieceCalls.{row_span, span_at, piece_call};
+ghost use Rattle.template.specs.Record.{Shows, From, count_of, record_count, references_of, references_call, Lawful, Numbered};
 ghost use Rattle.template.specs.Answer.{answer_of, IsPart};
 
 use pattern::{Line, Pattern, Refusal, Spans, Template};
@@ -80,7 +80,7 @@ pub fn record_at(template: &[u8], at: usize) -> Record
 
 // Refusal 9, or the number of records: the walk over all of them.
 pub fn check_template(template: &[u8]) -> Counted
-    ensures { count_of result ≡ recordCount template.now }
+    ensures { count_of result ≡ record_count template.now }
 {
     if Template::BYTES < template.len() {
         return Counted::Wrong(0);
@@ -106,7 +106,7 @@ pub fn check_template(template: &[u8]) -> Counted
 // Refusal 10 of a template that 9 does not refuse: the walk to the first reference above the groups.
 fn first_too_high(template: &[u8], groups: usize) -> References
     requires { Lawful template.now }
-    ensures { (pieces : List Piece) → templateOf template.now ≡ accepted pieces → referencesOf result ≡ within pieces groups }
+    ensures { (pieces : List Piece) → template_of template.now ≡ accepted pieces → references_of result ≡ within pieces groups }
 {
     let mut at = 0;
     while at < template.len() {
@@ -126,7 +126,7 @@ fn first_too_high(template: &[u8], groups: usize) -> References
 
 // Refusals 9 and 10: all of the first before any of the second.
 pub fn references_within(template: &[u8], groups: usize) -> References
-    ensures { referencesOf result ≡ referencesCall template.now groups }
+    ensures { references_of result ≡ references_call template.now groups }
 {
     match check_template(template) {
         Counted::Wrong(place) => References::Wrong(place),
@@ -137,7 +137,7 @@ pub fn references_within(template: &[u8], groups: usize) -> References
 // Where the record of a number stands: past as many bodies.
 fn place_of(template: &[u8], number: usize) -> usize
     requires { Numbered template.now number }
-    ensures { (pieces : List Piece) → templateOf template.now ≡ accepted pieces → From template.now result (drop number pieces) }
+    ensures { (pieces : List Piece) → template_of template.now ≡ accepted pieces → From template.now result (drop number pieces) }
 {
     let mut at = 0;
     let mut left = number;
@@ -150,8 +150,8 @@ fn place_of(template: &[u8], number: usize) -> usize
 
 // A row's part of a line so long; an absent one is the empty part at the line's start.
 fn row_part(size: usize, table: &[u16], row: usize) -> Answer
-    requires { (row ≤ patternGroups) × (tableNumbers ≤ length table.now) }
-    ensures { answer_of result ≡ rowSpan size (rowStart row table.now) (rowEnd row table.now) }
+    requires { (row ≤ pattern_groups) × (table_numbers ≤ length table.now) }
+    ensures { answer_of result ≡ row_span size (row_start row table.now) (row_end row table.now) }
 {
     let first = table[2 * row];
     let last = table[2 * row + 1];
@@ -175,8 +175,8 @@ fn row_part(size: usize, table: &[u16], row: usize) -> Answer
 
 // What the record of a number puts in, for a line so long.
 fn record_part(template: &[u8], size: usize, table: &[u16], number: usize) -> Answer
-    requires { Numbered template.now number × (tableNumbers ≤ length table.now) }
-    ensures { (pieces : List Piece) → templateOf template.now ≡ accepted pieces → answer_of result ≡ spanAt pieces number size table.now }
+    requires { Numbered template.now number × (table_numbers ≤ length table.now) }
+    ensures { (pieces : List Piece) → template_of template.now ≡ accepted pieces → answer_of result ≡ span_at pieces number size table.now }
 {
     let at = place_of(template, number);
     match record_at(template, at) {
@@ -191,7 +191,7 @@ fn record_part(template: &[u8], size: usize, table: &[u16], number: usize) -> An
 
 // What a template record puts in: source, start and end; or 9, 11, 12, 16 and 15, tested in this order.
 pub fn piece(template: &[u8], line: &[u8], table: &[u16], number: usize) -> Answer
-    ensures { answer_of result ≡ pieceCall template.now line.now table.now number }
+    ensures { answer_of result ≡ piece_call template.now line.now table.now number }
 {
     match check_template(template) {
         Counted::Wrong(place) => Answer::Refused {
@@ -224,7 +224,7 @@ pub fn piece(template: &[u8], line: &[u8], table: &[u16], number: usize) -> Answ
 
 // The part itself, out of the template or out of the line; where `piece` refuses, the empty part at the template's start.
 pub fn part<'a>(template: &'a [u8], line: &'a [u8], table: &[u16], number: usize) -> &'a [u8]
-    ensures { IsPart (pieceCall template.now line.now table.now number) template.entry line.entry result }
+    ensures { IsPart (piece_call template.now line.now table.now number) template.entry line.entry result }
 {
     match piece(template, line, table, number) {
         Answer::Refused {

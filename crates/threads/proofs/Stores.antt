@@ -40,8 +40,8 @@ copied rows list b long inside same =
 module _ (taken list : List ℕ) (next stamp : ℕ) (rows : Rows) (count : ℕ) (taken' list' : List ℕ) (fresh : Bool)
     (marked : (fresh ≡ not (eqb (get_or taken next 0) stamp)) × (taken' ≡ set taken next stamp)) where
   -- to a follower without a mark
-  pub carries-new : fresh ≡ true → list' ≡ stored list (21 * count) next rows → Carries taken list next stamp rows count taken' list' (count + 1)
-  carries-new e kept =
+  pub carries_new : fresh ≡ true → list' ≡ stored list (21 * count) next rows → Carries taken list next stamp rows count taken' list' (count + 1)
+  carries_new e kept =
       let unmarked : eqb (get_or taken next 0) stamp ≡ false = not-true (eqb (get_or taken next 0) stamp) (sym marked.0 ∙ e) in
       record {
         marked = marked.1;
@@ -50,8 +50,8 @@ module _ (taken list : List ℕ) (next stamp : ℕ) (rows : Rows) (count : ℕ) 
       }
 
   -- to a follower that has one
-  pub carries-not : fresh ≡ false → list' ≡ list → Carries taken list next stamp rows count taken' list' count
-  carries-not e kept =
+  pub carries_not : fresh ≡ false → list' ≡ list → Carries taken list next stamp rows count taken' list' count
+  carries_not e kept =
       let already : eqb (get_or taken next 0) stamp ≡ true = not-false (eqb (get_or taken next 0) stamp) (sym marked.0 ∙ e) in
       record {
         marked = marked.1;
@@ -62,47 +62,47 @@ module _ (taken list : List ℕ) (next stamp : ℕ) (rows : Rows) (count : ℕ) 
 -- ---- a thread stored
 
 module _ (list : List ℕ) (b place : ℕ) (rows : Rows) (long : length rows ≡ 20) (room : b + 21 ≤ length list) where
-  placed-long : length (set list b place) ≡ length list
-  placed-long = length-set list b place
+  placed_long : length (set list b place) ≡ length list
+  placed_long = length-set list b place
 
-  head-long : length (take (b + 1) (set list b place)) ≡ b + 1
-  head-long = length-take-le (b + 1) (set list b place) (omega (arith, placed-long))
+  head_long : length (take (b + 1) (set list b place)) ≡ b + 1
+  head_long = length-take-le (b + 1) (set list b place) (omega (arith, placed_long))
 
   -- the list stays as long as it was
-  pub stored-long : length (stored list b place rows) ≡ length list
-  stored-long = length-paste (set list b place) (b + 1) rows 20 (omega (arith, placed-long)) (omega arith) ∙ placed-long
+  pub stored_long : length (stored list b place rows) ≡ length list
+  stored_long = length-paste (set list b place) (b + 1) rows 20 (omega (arith, placed_long)) (omega arith) ∙ placed_long
 
   -- up to the place, the list is that with the place set
-  stored-head : (j : ℕ) → j < b + 1 → get_or (stored list b place rows) j 0 ≡ get_or (set list b place) j 0
-  stored-head j h =
+  stored_head : (j : ℕ) → j < b + 1 → get_or (stored list b place rows) j 0 ≡ get_or (set list b place) j 0
+  stored_head j h =
       get_or-append (take (b + 1) (set list b place) ++ take 20 rows) (drop (b + 1 + 20) (set list b place)) 0 j
-      (omega (arith, length-append (take (b + 1) (set list b place)) (take 20 rows), head-long))
-      ∙ (get_or-append (take (b + 1) (set list b place)) (take 20 rows) 0 j (omega (arith, head-long))
+      (omega (arith, length-append (take (b + 1) (set list b place)) (take 20 rows), head_long))
+      ∙ (get_or-append (take (b + 1) (set list b place)) (take 20 rows) 0 j (omega (arith, head_long))
       ∙ get_or-take (b + 1) (set list b place) j 0 h)
 
   -- what stands before the thread is left
-  pub stored-before : (j : ℕ) → j < b → get_or (stored list b place rows) j 0 ≡ get_or list j 0
-  stored-before j h = stored-head j (omega arith) ∙ get_or-set_other list b j place 0 (λ e. omega arith)
+  pub stored_before : (j : ℕ) → j < b → get_or (stored list b place rows) j 0 ≡ get_or list j 0
+  stored_before j h = stored_head j (omega arith) ∙ get_or-set_other list b j place 0 (λ e. omega arith)
 
   -- its place is the one stored
-  pub stored-place : get_or (stored list b place rows) b 0 ≡ place
-  stored-place = stored-head b (omega arith) ∙ get_or-set_same list b place 0 (omega arith)
+  pub stored_place : get_or (stored list b place rows) b 0 ≡ place
+  stored_place = stored_head b (omega arith) ∙ get_or-set_same list b place 0 (omega arith)
 
   -- its rows are those stored
-  pub stored-rows : rows_from (stored list b place rows) b ≡ rows
-  stored-rows =
+  pub stored_rows : rows_from (stored list b place rows) b ≡ rows
+  stored_rows =
       ap (take 20)
       (drop-append-le (b + 1) (take (b + 1) (set list b place) ++ take 20 rows) (drop (b + 1 + 20) (set list b place))
-      (omega (arith, length-append (take (b + 1) (set list b place)) (take 20 rows), head-long))
+      (omega (arith, length-append (take (b + 1) (set list b place)) (take 20 rows), head_long))
       ∙ ap (λ (l : List ℕ). l ++ drop (b + 1 + 20) (set list b place))
-      (drop_at (take (b + 1) (set list b place)) (take 20 rows) (b + 1) head-long))
+      (drop_at (take (b + 1) (set list b place)) (take 20 rows) (b + 1) head_long))
       ∙ (take_at (take 20 rows) (drop (b + 1 + 20) (set list b place)) 20 (length-take-le 20 rows (omega arith))
       ∙ take_all 20 rows (omega arith))
 
 -- lists that agree below an index have the same rows there
-pub same-part : (l m : List ℕ) (b c : ℕ) → length l ≡ length m → ((j : ℕ) → j < b → get_or l j 0 ≡ get_or m j 0) → c + 20 ≤ b
+pub same_part : (l m : List ℕ) (b c : ℕ) → length l ≡ length m → ((j : ℕ) → j < b → get_or l j 0 ≡ get_or m j 0) → c + 20 ≤ b
     → take 20 (drop c l) ≡ take 20 (drop c m)
-same-part l m b c long same h =
+same_part l m b c long same h =
     ext_get_or 0 (take 20 (drop c l)) (take 20 (drop c m))
     (omega (arith, length-take 20 (drop c l), length-drop c l, length-take 20 (drop c m), length-drop c m))
     (λ j lt.
@@ -111,10 +111,10 @@ same-part l m b c long same h =
     get_or-take 20 (drop c l) j 0 below ∙ (get_or-drop c l j 0 ∙ (same (c + j) inside ∙ (sym (get_or-drop c m j 0) ∙ sym (get_or-take 20 (drop c m) j 0 below)))))
 
 -- and the same threads
-pub same-threads : (l m : List ℕ) (n : ℕ) → length l ≡ length m → ((j : ℕ) → j < 21 * n → get_or l j 0 ≡ get_or m j 0) → threads l n ≡ threads m n
-same-threads l m zero long same = refl
-same-threads l m (suc n) long same =
+pub same_threads : (l m : List ℕ) (n : ℕ) → length l ≡ length m → ((j : ℕ) → j < 21 * n → get_or l j 0 ≡ get_or m j 0) → threads l n ≡ threads m n
+same_threads l m zero long same = refl
+same_threads l m (suc n) long same =
     let inside : 21 * n < 21 * suc n = omega arith in
     let fits : 21 * n + 1 + 20 ≤ 21 * suc n = omega arith in
-    ap₂ (λ (x y : List Thread). x ++ y) (same-threads l m n long (λ j h. same j (omega arith)))
-    (ap₂ (λ (x : ℕ) (r : Rows). at x 0 r ∷ []) (same (21 * n) inside) (same-part l m (21 * suc n) (21 * n + 1) long same fits))
+    ap₂ (λ (x y : List Thread). x ++ y) (same_threads l m n long (λ j h. same j (omega arith)))
+    (ap₂ (λ (x : ℕ) (r : Rows). at x 0 r ∷ []) (same (21 * n) inside) (same_part l m (21 * suc n) (21 * n + 1) long same fits))

@@ -1,9 +1,9 @@
 // Threads in lent memory (01, "The list machine", paragraph 2): a list of them, the branches of forks that wait, the stamps of what a position has met,
 // and a thread's rows made absent.
 ghost use Rattle.std.specs.Prelude.{◌≡◌, not, ◌+◌, ◌*◌, ◌≤◌, ◌<◌, ◌^◌, eqb, length, get_or, set};
-ghost use Rattle.paper.specs.Limits.{rowCount};
+ghost use Rattle.paper.specs.Limits.{row_count};
 ghost use Rattle.paper.specs.Rows.{clear};
-ghost use Rattle.threads.specs.Threads.{threadNumbers, branchNumbers, stored, waited, rows_from, Carries};
+ghost use Rattle.threads.specs.Threads.{thread_numbers, branch_numbers, stored, waited, rows_from, Carries};
 
 use pattern::Spans;
 
@@ -22,7 +22,7 @@ pub fn wide(x: u16) -> usize
 
 // Makes a row absent.
 fn clear_one(rows: &mut [u16; Spans::NUMBERS], k: usize)
-    requires { k + 1 ≤ rowCount }
+    requires { k + 1 ≤ row_count }
     ensures { rows.new ≡ clear k 1 rows.old }
 {
     rows[2 * k] = Spans::ABSENT;
@@ -31,7 +31,7 @@ fn clear_one(rows: &mut [u16; Spans::NUMBERS], k: usize)
 
 // Makes a row and the next absent.
 fn clear_two(rows: &mut [u16; Spans::NUMBERS], k: usize)
-    requires { k + 2 ≤ rowCount }
+    requires { k + 2 ≤ row_count }
     ensures { rows.new ≡ clear k 2 rows.old }
 {
     clear_one(rows, k);
@@ -40,7 +40,7 @@ fn clear_two(rows: &mut [u16; Spans::NUMBERS], k: usize)
 
 // Makes four rows from one on absent.
 fn clear_four(rows: &mut [u16; Spans::NUMBERS], k: usize)
-    requires { k + 4 ≤ rowCount }
+    requires { k + 4 ≤ row_count }
     ensures { rows.new ≡ clear k 4 rows.old }
 {
     clear_two(rows, k);
@@ -49,7 +49,7 @@ fn clear_four(rows: &mut [u16; Spans::NUMBERS], k: usize)
 
 // Makes a row absent, or none.
 fn clear_under_two(rows: &mut [u16; Spans::NUMBERS], k: usize, n: usize)
-    requires { (n < 2) × (k + n ≤ rowCount) }
+    requires { (n < 2) × (k + n ≤ row_count) }
     ensures { rows.new ≡ clear k n rows.old }
 {
     if n == 1 {
@@ -59,7 +59,7 @@ fn clear_under_two(rows: &mut [u16; Spans::NUMBERS], k: usize, n: usize)
 
 // Makes up to three rows from one on absent.
 fn clear_under_four(rows: &mut [u16; Spans::NUMBERS], k: usize, n: usize)
-    requires { (n < 4) × (k + n ≤ rowCount) }
+    requires { (n < 4) × (k + n ≤ row_count) }
     ensures { rows.new ≡ clear k n rows.old }
 {
     if n < 2 {
@@ -72,7 +72,7 @@ fn clear_under_four(rows: &mut [u16; Spans::NUMBERS], k: usize, n: usize)
 
 // Makes up to seven rows from one on absent.
 fn clear_under_eight(rows: &mut [u16; Spans::NUMBERS], k: usize, n: usize)
-    requires { (n < 8) × (k + n ≤ rowCount) }
+    requires { (n < 8) × (k + n ≤ row_count) }
     ensures { rows.new ≡ clear k n rows.old }
 {
     if n < 4 {
@@ -85,7 +85,7 @@ fn clear_under_eight(rows: &mut [u16; Spans::NUMBERS], k: usize, n: usize)
 
 // Makes as many rows from the first on absent, the usual none or one first. A loop over the rows would become a call, which the machine's steps pay for.
 pub fn clear_rows(rows: &mut [u16; Spans::NUMBERS], first: usize, count: usize)
-    requires { first + count ≤ rowCount }
+    requires { first + count ≤ row_count }
     ensures { rows.new ≡ clear first count rows.old }
 {
     if count < 2 {
@@ -101,7 +101,7 @@ pub fn clear_rows(rows: &mut [u16; Spans::NUMBERS], first: usize, count: usize)
 
 // Writes a thread at an offset of a list.
 pub fn store(list: &mut [u16], offset: usize, place: u16, groups: [u16; Spans::NUMBERS])
-    requires { offset + threadNumbers ≤ length list.old }
+    requires { offset + thread_numbers ≤ length list.old }
     ensures { list.new ≡ stored list.old offset place groups }
 {
     list[offset] = place;
@@ -114,7 +114,7 @@ pub fn store(list: &mut [u16], offset: usize, place: u16, groups: [u16; Spans::N
 
 // The rows of the thread at an offset of a list.
 pub fn load(list: &[u16], offset: usize) -> [u16; Spans::NUMBERS]
-    requires { offset + threadNumbers ≤ length list.now }
+    requires { offset + thread_numbers ≤ length list.now }
     ensures { result ≡ rows_from list.now offset }
 {
     let b = offset + 1;
@@ -146,7 +146,7 @@ pub fn carry(
     groups: [u16; Spans::NUMBERS],
     count: usize,
 ) -> usize
-    requires { (next < length taken.old) × (next < 2 ^ 16) × (threadNumbers * count + threadNumbers ≤ length list.old) }
+    requires { (next < length taken.old) × (next < 2 ^ 16) × (thread_numbers * count + thread_numbers ≤ length list.old) }
     ensures { Carries taken.old list.old next stamp groups count taken.new list.new result }
 {
     if mark(taken, next, stamp) {
@@ -165,7 +165,7 @@ pub fn wait(
     place: usize,
     rows: [u16; Spans::NUMBERS],
 )
-    requires { (branchNumbers * index + branchNumbers ≤ length pending.old) × (floor < 2 ^ 16) × (place < 2 ^ 16) }
+    requires { (branch_numbers * index + branch_numbers ≤ length pending.old) × (floor < 2 ^ 16) × (place < 2 ^ 16) }
     ensures { pending.new ≡ waited pending.old index floor place rows }
 {
     let b = BRANCH * index;

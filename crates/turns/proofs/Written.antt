@@ -60,8 +60,8 @@ module _ (bytes entry : List ℕ) (at : ℕ) (fits : at + length bytes ≤ lengt
         inside = omega arith;
       }
 
-  pub copy-end : (buffer : List ℕ) (i : ℕ) → Copying bytes entry at buffer i → length bytes ≤ i → Appended entry buffer at bytes (at + i)
-  copy-end buffer i kept past =
+  pub copy_end : (buffer : List ℕ) (i : ℕ) → Copying bytes entry at buffer i → length bytes ≤ i → Appended entry buffer at bytes (at + i)
+  copy_end buffer i kept past =
       let all : i ≡ length bytes = omega (arith, kept.inside) in
       subst (λ (l : List ℕ). Appended entry l at bytes (at + i)) (sym kept.same)
       (subst (λ (n : ℕ). Appended entry (paste entry at bytes n) at bytes (at + n)) (sym all) (pasted entry bytes at fits))

@@ -1,8 +1,8 @@
 -- A turn of the scan as the code holds it, read as the definition's.
 use Rattle.std.specs.Prelude.{ℕ, ◌≤◌, ◌≡◌, Bool, true, false, cond, eqb}
 use Rattle.std.proofs.Math.Option.{Option, none, some}
-use Rattle.paper.specs.Limits.{lineBytes, absent}
-use Rattle.paper.specs.Rows.{Rows, no_rows, rowEnd}
+use Rattle.paper.specs.Limits.{line_bytes, absent}
+use Rattle.paper.specs.Rows.{Rows, no_rows, row_end}
 use Rattle.paper.specs.ScanTurn as paper
 use Rattle.turns.specs.declared.Turn.{Turn}
 
@@ -11,16 +11,16 @@ abbrev pub last_of : ℕ → Option ℕ
 last_of last = cond (eqb last absent) none (some last)
 
 -- what a search found
-abbrev pub foundOf : Bool → Rows → Option Rows
-foundOf true rows = some rows
-foundOf false rows = none
+abbrev pub found_of : Bool → Rows → Option Rows
+found_of true rows = some rows
+found_of false rows = none
 
 -- what a search in a line so long leaves: rows inside it, all absent where there is no match
 pub record Finds (size : ℕ) (matched : Bool) (rows : Rows) : Type 0 where
-  pub short : size ≤ lineBytes
-  pub inside : matched ≡ true → rowEnd 0 rows ≤ size
-  pub none-there : matched ≡ false → rows ≡ no_rows
+  pub short : size ≤ line_bytes
+  pub inside : matched ≡ true → row_end 0 rows ≤ size
+  pub none_there : matched ≡ false → rows ≡ no_rows
 
-abbrev pub asTurn : Turn → paper.Turn
-asTurn t =
+abbrev pub as_turn : Turn → paper.Turn
+as_turn t =
     record { start = t.start; put = t.put; rows = t.rows; upto = t.upto; goes = t.goes; next = t.next; last = last_of t.last }

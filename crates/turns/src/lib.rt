@@ -2,13 +2,13 @@
 mod writing;
 
 ghost use Rattle.std.specs.Prelude.{◌≡◌, Bool, cond, not, [], ◌+◌, ◌≤◌, length};
-ghost use Rattle.paper.specs.Limits.{lineBytes};
+ghost use Rattle.paper.specs.Limits.{line_bytes};
 ghost use Rattle.paper.specs.Rows.{RowsFit};
 ghost use Rattle.paper.specs.Replace.{put_in, suppressed};
-ghost use Rattle.paper.specs.ScanTurn.{turn_of, turnBytes, TurnFits};
+ghost use Rattle.paper.specs.ScanTurn.{turn_of, turn_bytes, TurnFits};
 ghost use Rattle.turns.specs.Accepted.{pieces_of, Right};
 ghost use Rattle.turns.specs.Appended.{Appended};
-ghost use Rattle.turns.specs.Turn.{last_of, foundOf, Finds, asTurn};
+ghost use Rattle.turns.specs.Turn.{last_of, found_of, Finds, as_turn};
 
 use pattern::Spans;
 
@@ -45,7 +45,7 @@ fn is_replaced(start: usize, end: usize, last: usize) -> bool
 // The turn of a match, by its rows.
 fn match_turn(size: usize, last: usize, rows: [u16; Spans::NUMBERS], steps: u32) -> Turn
     requires { Finds size Bool.true rows }
-    ensures { (asTurn result ≡ turn_of size (last_of last) (foundOf Bool.true rows)) × (result.steps ≡ steps) }
+    ensures { (as_turn result ≡ turn_of size (last_of last) (found_of Bool.true rows)) × (result.steps ≡ steps) }
 {
     let start = rows[0] as usize;
     let end = rows[1] as usize;
@@ -95,7 +95,7 @@ pub fn turn_of(
     steps: u32,
 ) -> Turn
     requires { Finds size matched rows }
-    ensures { (asTurn result ≡ turn_of size (last_of last) (foundOf matched rows)) × (result.steps ≡ steps) }
+    ensures { (as_turn result ≡ turn_of size (last_of last) (found_of matched rows)) × (result.steps ≡ steps) }
 {
     if matched {
         return match_turn(size, last, rows, steps);
@@ -114,8 +114,8 @@ pub fn turn_of(
 
 // How many bytes a turn from a position writes.
 pub fn turn_length(template: &[u8], line: &[u8], from: usize, turn: Turn) -> usize
-    requires { Right template.now × TurnFits (length line.now) from (asTurn turn) × (length line.now ≤ lineBytes) }
-    ensures { result ≡ length (turnBytes template.now line.now (pieces_of template.now) from (asTurn turn)) }
+    requires { Right template.now × TurnFits (length line.now) from (as_turn turn) × (length line.now ≤ line_bytes) }
+    ensures { result ≡ length (turn_bytes template.now line.now (pieces_of template.now) from (as_turn turn)) }
 {
     let copied = turn.upto - from;
     if turn.put {
@@ -134,7 +134,7 @@ fn put_where(
     buffer: &mut [u8],
     at: usize,
 ) -> usize
-    requires { Right template.now × RowsFit (length line.now) rows × (length line.now ≤ lineBytes) × (at + length (cond puts (put_in template.now line.now rows (pieces_of template.now)) []) ≤ length buffer.old) }
+    requires { Right template.now × RowsFit (length line.now) rows × (length line.now ≤ line_bytes) × (at + length (cond puts (put_in template.now line.now rows (pieces_of template.now)) []) ≤ length buffer.old) }
     ensures { Appended buffer.old buffer.new at (cond puts (put_in template.now line.now rows (pieces_of template.now)) []) result }
 {
     if puts {
@@ -153,8 +153,8 @@ pub fn write_turn(
     buffer: &mut [u8],
     at: usize,
 ) -> usize
-    requires { Right template.now × TurnFits (length line.now) from (asTurn turn) × (length line.now ≤ lineBytes) × (at + length (turnBytes template.now line.now (pieces_of template.now) from (asTurn turn)) ≤ length buffer.old) }
-    ensures { Appended buffer.old buffer.new at (turnBytes template.now line.now (pieces_of template.now) from (asTurn turn)) result }
+    requires { Right template.now × TurnFits (length line.now) from (as_turn turn) × (length line.now ≤ line_bytes) × (at + length (turn_bytes template.now line.now (pieces_of template.now) from (as_turn turn)) ≤ length buffer.old) }
+    ensures { Appended buffer.old buffer.new at (turn_bytes template.now line.now (pieces_of template.now) from (as_turn turn)) result }
 {
     let start = turn.start;
     let upto = turn.upto;

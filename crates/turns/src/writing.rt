@@ -1,8 +1,8 @@
 // Writing into the buffer: bytes behind those written already, and what a template puts in for a match.
 ghost use Rattle.std.specs.Prelude.{◌≡◌, ◌+◌, ◌≤◌, length};
-ghost use Rattle.paper.specs.Limits.{lineBytes, patternGroups};
+ghost use Rattle.paper.specs.Limits.{line_bytes, pattern_groups};
 ghost use Rattle.paper.specs.Rows.{RowsFit};
-ghost use Rattle.paper.specs.Replace.{rowBytes, put_in};
+ghost use Rattle.paper.specs.Replace.{row_bytes, put_in};
 ghost use Rattle.turns.specs.Accepted.{pieces_of, Right};
 ghost use Rattle.turns.specs.Appended.{Appended};
 
@@ -27,8 +27,8 @@ pub fn append(bytes: &[u8], buffer: &mut [u8], at: usize) -> usize
 
 // What a row holds; an absent one nothing.
 pub fn row_bytes(line: &[u8], rows: [u16; Spans::NUMBERS], row: usize) -> &[u8]
-    requires { RowsFit (length line.now) rows × (row ≤ patternGroups) × (length line.now ≤ lineBytes) }
-    ensures { result.now ≡ rowBytes line.now rows row }
+    requires { RowsFit (length line.now) rows × (row ≤ pattern_groups) × (length line.now ≤ line_bytes) }
+    ensures { result.now ≡ row_bytes line.now rows row }
 {
     let start = rows[2 * row] as usize;
     let end = rows[2 * row + 1] as usize;
@@ -40,7 +40,7 @@ pub fn row_bytes(line: &[u8], rows: [u16; Spans::NUMBERS], row: usize) -> &[u8]
 
 // How many bytes the template puts in for a match with these rows.
 pub fn put_length(template: &[u8], line: &[u8], rows: [u16; Spans::NUMBERS]) -> usize
-    requires { Right template.now × RowsFit (length line.now) rows × (length line.now ≤ lineBytes) }
+    requires { Right template.now × RowsFit (length line.now) rows × (length line.now ≤ line_bytes) }
     ensures { result ≡ length (put_in template.now line.now rows (pieces_of template.now)) }
 {
     let mut place = 0;
@@ -70,7 +70,7 @@ pub fn put(
     buffer: &mut [u8],
     at: usize,
 ) -> usize
-    requires { Right template.now × RowsFit (length line.now) rows × (length line.now ≤ lineBytes) × (at + length (put_in template.now line.now rows (pieces_of template.now)) ≤ length buffer.old) }
+    requires { Right template.now × RowsFit (length line.now) rows × (length line.now ≤ line_bytes) × (at + length (put_in template.now line.now rows (pieces_of template.now)) ≤ length buffer.old) }
     ensures { Appended buffer.old buffer.new at (put_in template.now line.now rows (pieces_of template.now)) result }
 {
     let mut place = 0;

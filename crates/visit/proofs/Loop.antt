@@ -13,16 +13,16 @@ use lib.ListN.{length, get_or, set, drop, length-set, length-drop}
 use lib.Seq.{length-take-le}
 use Rattle.paper.specs.Rows.{Rows}
 use Rattle.paper.specs.Machine.{Thread, at, State, visit}
-use Rattle.paper.specs.Tables.{decode, placeKindAt}
+use Rattle.paper.specs.Tables.{decode, place_kind_at}
 use Rattle.threads.specs.Threads.{lacking, waited, rows_from, Under}
 use Rattle.moves.specs.Shows.{AheadIn, Shows, Carried}
-use Rattle.moves.specs.Moves.{Slots, levelAfter, Leads, Settling, Settles}
+use Rattle.moves.specs.Moves.{Slots, level_after, Leads, Settling, Settles}
 use Rattle.visit.specs.Wired.{Wired}
 use Rattle.visit.specs.Visits.{Arrives, Visits}
-use Rattle.threads.proofs.Stamps.{lacking-mark, mark-same, under-mark}
-use Rattle.visit.proofs.Cells.{cell-inside, deep-after}
-use Rattle.visit.proofs.Waiting.{lackingLow, low-most, low-mark, low-other, reach, Waits, waits-fewer, waited-long, waits-more, Taken, waits-less, waits-none}
-use Rattle.visit.proofs.Turns.{Stands, Reads, stands-seen, stands-lead, stands-settle, stands-fork}
+use Rattle.threads.proofs.Stamps.{lacking_mark, mark_same, under_mark}
+use Rattle.visit.proofs.Cells.{cell_inside, deep_after}
+use Rattle.visit.proofs.Waiting.{lacking_low, low_most, low_mark, low_other, reach, Waits, waits_fewer, waited_long, waits_more, Taken, waits_less, waits_none}
+use Rattle.visit.proofs.Turns.{Stands, Reads, stands_seen, stands_lead, stands_settle, stands_fork}
 
 -- the same table for as many entries
 abbrev pub rewire : {code pattern : List ℕ} {places cells : ℕ} (more : ℕ) → cells ≡ more → Wired code pattern places cells → Wired code pattern places more
@@ -34,22 +34,22 @@ rewire {places = places} more e w = record {
   follows = w.follows;
   forks = w.forks;
   deeper = w.deeper;
-  deeper-other = w.deeper-other;
+  deeper_other = w.deeper_other;
   raised = w.raised;
   ahead = w.ahead;
-  ahead-other = w.ahead-other;
+  ahead_other = w.ahead_other;
   slots = w.slots;
   ranges = w.ranges;
 }
 
 -- ---- how far a branch has come
 
-reach-high : (level x : ℕ) → reach (suc level) x ≡ x
-reach-high level x = ap (λ (b : Bool). cond b 0 x) (eqb-suc-zero level)
+reach_high : (level x : ℕ) → reach (suc level) x ≡ x
+reach_high level x = ap (λ (b : Bool). cond b 0 x) (eqb-suc-zero level)
 
-reach-most : (level x : ℕ) → reach level x ≤ x
-reach-most zero x = omega arith
-reach-most (suc level) x = omega (arith, reach-high level x)
+reach_most : (level x : ℕ) → reach level x ≤ x
+reach_most zero x = omega arith
+reach_most (suc level) x = omega (arith, reach_high level x)
 
 -- ---- what holds at the loop's test
 
@@ -62,18 +62,18 @@ pub record Turn (code pattern : List ℕ) (there : Bool) (byte places p : ℕ) (
   pub inside : x < places
   pub low : level ≤ asked.wired.deep x
   pub rows_long : length rows ≡ 20
-  pub floor-is : floor ≡ level * places
+  pub floor_is : floor ≡ level * places
   pub long : length seen ≡ length seen₀
-  pub taken-long : length taken ≡ length taken₀
-  pub list-long : length list ≡ length list₀
-  pub pending-long : length pending ≡ length pending₀
+  pub taken_long : length taken ≡ length taken₀
+  pub list_long : length list ≡ length list₀
+  pub pending_long : length pending ≡ length pending₀
   pub under : Under (p + 1) seen
   pub carried : Carried places (p + 1) taken list count
   pub each : steps + lacking (p + 1) seen ≡ steps₀ + lacking (p + 1) seen₀
   pub fewer : lacking (p + 1) seen ≤ lacking (p + 1) seen₀
   pub unwon : goes ≡ true → done ≡ false
-  pub waits : Waits places asked.wired.deep pending (lackingLow places (p + 1) seen) waiting waiters
-  pub bounded : alive ≡ true → waiting + lackingLow places (p + 1) seen ≤ places + reach level x
+  pub waits : Waits places asked.wired.deep pending (lacking_low places (p + 1) seen) waiting waiters
+  pub bounded : alive ≡ true → waiting + lacking_low places (p + 1) seen ≤ places + reach level x
   pub stands : (line : List ℕ) → AheadIn line p there byte → (k : ℕ) (s : State) → Shows places (p + 1) seen₀ taken₀ list₀ count₀ steps₀ false s → lacking (p + 1) seen₀ < k
       → Stands code pattern line places p seen taken list count steps goes done (cond alive (at x level rows ∷ waiters) waiters)
       (visit k (decode code pattern places) line p (at x₀ 0 rows₀) s)
@@ -93,28 +93,28 @@ at_most_one true = omega arith
 at_most_one false = omega arith
 
 -- it holds at the start
-pub turn-first : (code pattern : List ℕ) (there : Bool) (byte places p : ℕ) (seen taken list pending : List ℕ) (x : ℕ) (rows : Rows) (count steps : ℕ)
+pub turn_first : (code pattern : List ℕ) (there : Bool) (byte places p : ℕ) (seen taken list pending : List ℕ) (x : ℕ) (rows : Rows) (count steps : ℕ)
     → length rows ≡ 20 → Arrives code pattern places p x seen taken list pending count steps
     → Turn code pattern there byte places p seen taken list pending x rows count steps seen taken list pending x 0 rows count steps 0 true true false
-turn-first code pattern there byte places p seen taken list pending x rows count steps rows_long asked = record {
+turn_first code pattern there byte places p seen taken list pending x rows count steps rows_long asked = record {
   asked = asked;
   level = 0;
   waiters = [];
   inside = asked.inside;
   low = omega arith;
   rows_long = rows_long;
-  floor-is = sym (zero-mul places);
+  floor_is = sym (zero-mul places);
   long = refl;
-  taken-long = refl;
-  list-long = refl;
-  pending-long = refl;
+  taken_long = refl;
+  list_long = refl;
+  pending_long = refl;
   under = asked.under;
   carried = asked.carried;
   each = refl;
   fewer = omega arith;
   unwon = λ e. refl;
   waits = tt;
-  bounded = λ e. omega (arith, low-most places (p + 1) seen);
+  bounded = λ e. omega (arith, low_most places (p + 1) seen);
   stands = λ line along k s sh h. record { state = s; shows = sh; rest = (k, h, refl) };
 }
 
@@ -122,16 +122,16 @@ module _ {code pattern : List ℕ} {there : Bool} {byte places p : ℕ} {seen₀
     {seen taken list pending : List ℕ} {x floor : ℕ} {rows : Rows} {count steps waiting : ℕ} {alive goes done : Bool}
     (t : Turn code pattern there byte places p seen₀ taken₀ list₀ pending₀ x₀ rows₀ count₀ steps₀ seen taken list pending x floor rows count steps waiting alive goes done) where
   -- the pair's entry is inside
-  pub turn-cell : floor + x < length seen
-  turn-cell = omega (arith, cell-inside t.asked.wired x t.level t.inside t.low, t.long, t.floor-is)
+  pub turn_cell : floor + x < length seen
+  turn_cell = omega (arith, cell_inside t.asked.wired x t.level t.inside t.low, t.long, t.floor_is)
 
   -- and so is the floor of the next level
-  pub turn-floor : floor + places < 2 ^ 64
-  turn-floor = omega (arith, turn-cell, t.long, t.asked.cells, t.asked.wired.few)
+  pub turn_floor : floor + places < 2 ^ 64
+  turn_floor = omega (arith, turn_cell, t.long, t.asked.cells, t.asked.wired.few)
 
   -- the place's numbers are inside
-  pub turn-numbers : 4 * x + 3 < length code
-  turn-numbers = omega (arith, t.asked.wired.long, t.inside)
+  pub turn_numbers : 4 * x + 3 < length code
+  turn_numbers = omega (arith, t.asked.wired.long, t.inside)
 
   -- a thread is next
   going : (line : List ℕ) → AheadIn line p there byte → alive ≡ true → goes ≡ true → (k : ℕ) (s : State)
@@ -177,11 +177,11 @@ module _ {code pattern : List ℕ} {there : Bool} {byte places p : ℕ} {seen₀
     inside = t.inside;
     low = t.low;
     rows_long = t.rows_long;
-    floor-is = t.floor-is;
+    floor_is = t.floor_is;
     long = t.long;
-    taken-long = t.taken-long;
-    list-long = t.list-long;
-    pending-long = t.pending-long;
+    taken_long = t.taken_long;
+    list_long = t.list_long;
+    pending_long = t.pending_long;
     under = t.under;
     carried = t.carried;
     each = t.each;
@@ -192,34 +192,34 @@ module _ {code pattern : List ℕ} {there : Bool} {byte places p : ℕ} {seen₀
     stands = λ line along k s sh h.
         let final = visit k (decode code pattern places) line p (at x₀ 0 rows₀) s in
         let st = subst (λ (ts : List Thread). Stands code pattern line places p seen taken list count steps true done ts final)
-        (waits-none places t.asked.wired.deep pending (lackingLow places (p + 1) seen) waiting t.waiters none t.waits) (resting line along dead go k s sh h) in
+        (waits_none places t.asked.wired.deep pending (lacking_low places (p + 1) seen) waiting t.waiters none t.waits) (resting line along dead go k s sh h) in
         record { state = st.state; shows = st.shows; rest = st.rest };
   }
 
-  pub less-end : goes ≡ true → turns p seen waiting alive false < turns p seen waiting alive goes
-  less-end go =
+  pub less_end : goes ≡ true → turns p seen waiting alive false < turns p seen waiting alive goes
+  less_end go =
       let one : ◌≡◌ {A = ℕ} (cond goes 1 0) 1 = ap (λ (g : Bool). cond g 1 0) go in
       omega arith
 
   -- the last branch that waits is next
   module _ (some : 0 < waiting) where
-    taken-branch : Taken places t.asked.wired.deep pending (lackingLow places (p + 1) seen) (waiting - 1) t.waiters
-    taken-branch =
+    taken_branch : Taken places t.asked.wired.deep pending (lacking_low places (p + 1) seen) (waiting - 1) t.waiters
+    taken_branch =
         let e : waiting ≡ suc (waiting - 1) = omega arith in
-        waits-less places t.asked.wired.deep pending (lackingLow places (p + 1) seen) (waiting - 1) t.waiters
-        (subst (λ (n : ℕ). Waits places t.asked.wired.deep pending (lackingLow places (p + 1) seen) n t.waiters) e t.waits)
+        waits_less places t.asked.wired.deep pending (lacking_low places (p + 1) seen) (waiting - 1) t.waiters
+        (subst (λ (n : ℕ). Waits places t.asked.wired.deep pending (lacking_low places (p + 1) seen) n t.waiters) e t.waits)
 
     -- there are at most two for each place, and so their numbers are inside
-    pub turn-branch : 22 * (waiting - 1) + 22 ≤ length pending
-    turn-branch =
-        let w = taken-branch.waiter in
-        omega (arith, w.bounded, reach-most taken-branch.thread.level taken-branch.thread.place, w.inside, t.asked.pending-long, t.pending-long)
+    pub turn_branch : 22 * (waiting - 1) + 22 ≤ length pending
+    turn_branch =
+        let w = taken_branch.waiter in
+        omega (arith, w.bounded, reach_most taken_branch.thread.level taken_branch.thread.place, w.inside, t.asked.pending_long, t.pending_long)
 
-    pub turn-resume : alive ≡ false → goes ≡ true → (x' floor' : ℕ) (rows' : Rows) → x' ≡ get_or pending (22 * (waiting - 1) + 1) 0
+    pub turn_resume : alive ≡ false → goes ≡ true → (x' floor' : ℕ) (rows' : Rows) → x' ≡ get_or pending (22 * (waiting - 1) + 1) 0
         → floor' ≡ get_or pending (22 * (waiting - 1)) 0 → rows' ≡ rows_from pending (22 * (waiting - 1) + 1)
         → Turn code pattern there byte places p seen₀ taken₀ list₀ pending₀ x₀ rows₀ count₀ steps₀ seen taken list pending x' floor' rows' count steps (waiting - 1) true goes done
-    turn-resume dead go x' floor' rows' ex ef er =
-        let b = taken-branch in
+    turn_resume dead go x' floor' rows' ex ef er =
+        let b = taken_branch in
         let w = b.waiter in
         let place_is : x' ≡ b.thread.place = ex ∙ w.place_is in
         let rows_are : rows' ≡ b.thread.rows = er ∙ w.rows_are in
@@ -229,19 +229,19 @@ module _ {code pattern : List ℕ} {there : Bool} {byte places p : ℕ} {seen₀
           waiters = b.others;
           inside = subst (λ (y : ℕ). y < places) (sym place_is) w.inside;
           low = subst (λ (y : ℕ). b.thread.level ≤ t.asked.wired.deep y) (sym place_is) w.low;
-          rows_long = ap length er ∙ length-take-le 20 (drop (22 * (waiting - 1) + 1 + 1) pending) (omega (arith, turn-branch, length-drop (22 * (waiting - 1) + 1 + 1) pending));
-          floor-is = ef ∙ w.floor-is;
+          rows_long = ap length er ∙ length-take-le 20 (drop (22 * (waiting - 1) + 1 + 1) pending) (omega (arith, turn_branch, length-drop (22 * (waiting - 1) + 1 + 1) pending));
+          floor_is = ef ∙ w.floor_is;
           long = t.long;
-          taken-long = t.taken-long;
-          list-long = t.list-long;
-          pending-long = t.pending-long;
+          taken_long = t.taken_long;
+          list_long = t.list_long;
+          pending_long = t.pending_long;
           under = t.under;
           carried = t.carried;
           each = t.each;
           fewer = t.fewer;
           unwon = t.unwon;
           waits = b.waits;
-          bounded = λ e. subst (λ (y : ℕ). waiting - 1 + lackingLow places (p + 1) seen ≤ places + reach b.thread.level y) (sym place_is) w.bounded;
+          bounded = λ e. subst (λ (y : ℕ). waiting - 1 + lacking_low places (p + 1) seen ≤ places + reach b.thread.level y) (sym place_is) w.bounded;
           stands = λ line along k s sh h.
               let final = visit k (decode code pattern places) line p (at x₀ 0 rows₀) s in
               subst₂ (λ (y : ℕ) (r : Rows). Stands code pattern line places p seen taken list count steps goes done (at y b.thread.level r ∷ b.others) final)
@@ -250,8 +250,8 @@ module _ {code pattern : List ℕ} {there : Bool} {byte places p : ℕ} {seen₀
               (subst (λ (ts : List Thread). Stands code pattern line places p seen taken list count steps true done ts final) b.all_are (resting line along dead go k s sh h)));
         }
 
-    pub less-resume : alive ≡ false → turns p seen (waiting - 1) true goes < turns p seen waiting alive goes
-    less-resume dead =
+    pub less_resume : alive ≡ false → turns p seen (waiting - 1) true goes < turns p seen waiting alive goes
+    less_resume dead =
         let none : ◌≡◌ {A = ℕ} (cond alive 1 0) 0 = ap (λ (a : Bool). cond a 1 0) dead in
         omega arith
 
@@ -259,24 +259,24 @@ module _ {code pattern : List ℕ} {there : Bool} {byte places p : ℕ} {seen₀
       (was : (fresh ≡ not (eqb (get_or seen (floor + x) 0) (p + 1))) × (seen' ≡ set seen (floor + x) (p + 1))) where
     -- the entry by level and place
     cell : (fresh ≡ not (eqb (get_or seen (t.level * places + x) 0) (p + 1))) × (seen' ≡ set seen (t.level * places + x) (p + 1))
-    cell = subst (λ (f : ℕ). (fresh ≡ not (eqb (get_or seen (f + x) 0) (p + 1))) × (seen' ≡ set seen (f + x) (p + 1))) t.floor-is was
+    cell = subst (λ (f : ℕ). (fresh ≡ not (eqb (get_or seen (f + x) 0) (p + 1))) × (seen' ≡ set seen (f + x) (p + 1))) t.floor_is was
 
     room : t.level * places + x < length seen
-    room = omega (arith, turn-cell, t.floor-is)
+    room = omega (arith, turn_cell, t.floor_is)
 
-    marked-long : length seen' ≡ length seen₀
-    marked-long = ap length was.1 ∙ (length-set seen (floor + x) (p + 1) ∙ t.long)
+    marked_long : length seen' ≡ length seen₀
+    marked_long = ap length was.1 ∙ (length-set seen (floor + x) (p + 1) ∙ t.long)
 
-    marked-under : Under (p + 1) seen'
-    marked-under = subst (Under (p + 1)) (sym was.1) (under-mark (p + 1) seen (floor + x) t.under)
+    marked_under : Under (p + 1) seen'
+    marked_under = subst (Under (p + 1)) (sym was.1) (under_mark (p + 1) seen (floor + x) t.under)
 
     same_seen : fresh ≡ false → seen' ≡ seen
-    same_seen e = was.1 ∙ mark-same (p + 1) seen (floor + x) (not-false (eqb (get_or seen (floor + x) 0) (p + 1)) (sym was.0 ∙ e))
+    same_seen e = was.1 ∙ mark_same (p + 1) seen (floor + x) (not-false (eqb (get_or seen (floor + x) 0) (p + 1)) (sym was.0 ∙ e))
 
     -- the pair was seen: the thread has come to its end
-    pub turn-seen : fresh ≡ false
+    pub turn_seen : fresh ≡ false
         → Turn code pattern there byte places p seen₀ taken₀ list₀ pending₀ x₀ rows₀ count₀ steps₀ seen' taken list pending x floor rows count steps waiting false goes done
-    turn-seen e =
+    turn_seen e =
         let same : seen' ≡ seen = same_seen e in
         let amount : lacking (p + 1) seen' ≡ lacking (p + 1) seen = ap (lacking (p + 1)) same in
         record {
@@ -286,28 +286,28 @@ module _ {code pattern : List ℕ} {there : Bool} {byte places p : ℕ} {seen₀
           inside = t.inside;
           low = t.low;
           rows_long = t.rows_long;
-          floor-is = t.floor-is;
-          long = marked-long;
-          taken-long = t.taken-long;
-          list-long = t.list-long;
-          pending-long = t.pending-long;
-          under = marked-under;
+          floor_is = t.floor_is;
+          long = marked_long;
+          taken_long = t.taken_long;
+          list_long = t.list_long;
+          pending_long = t.pending_long;
+          under = marked_under;
           carried = t.carried;
           each = omega (arith, t.each);
           fewer = omega (arith, t.fewer);
           unwon = t.unwon;
-          waits = subst (λ (table : List ℕ). Waits places t.asked.wired.deep pending (lackingLow places (p + 1) table) waiting t.waiters) (sym same) t.waits;
+          waits = subst (λ (table : List ℕ). Waits places t.asked.wired.deep pending (lacking_low places (p + 1) table) waiting t.waiters) (sym same) t.waits;
           bounded = λ f. never f;
           stands = λ line along k s sh h.
               let final = visit k (decode code pattern places) line p (at x₀ 0 rows₀) s in
               subst₂ (λ (g d : Bool). Stands code pattern line places p seen' taken list count steps g d t.waiters final) (sym go) (sym (t.unwon go))
               (subst (λ (table : List ℕ). Stands code pattern line places p table taken list count steps true false t.waiters final) (sym cell.1)
-              (stands-seen code pattern line places p seen taken list count steps x t.level rows t.waiters final t.inside room fresh cell.0
+              (stands_seen code pattern line places p seen taken list count steps x t.level rows t.waiters final t.inside room fresh cell.0
               (going line along lives go k s sh h) e));
         }
 
-    pub less-seen : fresh ≡ false → turns p seen' waiting false goes < turns p seen waiting alive goes
-    less-seen e =
+    pub less_seen : fresh ≡ false → turns p seen' waiting false goes < turns p seen waiting alive goes
+    less_seen e =
         let amount : lacking (p + 1) seen' ≡ lacking (p + 1) seen = ap (lacking (p + 1)) (same_seen e) in
         let one : ◌≡◌ {A = ℕ} (cond alive 1 0) 1 = ap (λ (a : Bool). cond a 1 0) lives in
         omega arith
@@ -317,221 +317,221 @@ module _ {code pattern : List ℕ} {there : Bool} {byte places p : ℕ} {seen₀
       unstamped = not-true (eqb (get_or seen (floor + x) 0) (p + 1)) (sym was.0 ∙ new)
 
       -- one entry less without the stamp
-      marked-lacking : suc (lacking (p + 1) seen') ≡ lacking (p + 1) seen
-      marked-lacking = ap (λ (table : List ℕ). suc (lacking (p + 1) table)) was.1 ∙ lacking-mark (p + 1) seen (floor + x) turn-cell unstamped
+      marked_lacking : suc (lacking (p + 1) seen') ≡ lacking (p + 1) seen
+      marked_lacking = ap (λ (table : List ℕ). suc (lacking (p + 1) table)) was.1 ∙ lacking_mark (p + 1) seen (floor + x) turn_cell unstamped
 
       -- on level 0 also among the first
-      low-less : t.level ≡ 0 → suc (lackingLow places (p + 1) seen') ≡ lackingLow places (p + 1) seen
-      low-less e =
-          let none : floor ≡ 0 = t.floor-is ∙ (ap (λ (l : ℕ). l * places) e ∙ zero-mul places) in
-          ap (λ (table : List ℕ). suc (lackingLow places (p + 1) table)) was.1
-          ∙ low-mark places (p + 1) seen (floor + x) (omega (arith, t.inside)) turn-cell unstamped
+      low_less : t.level ≡ 0 → suc (lacking_low places (p + 1) seen') ≡ lacking_low places (p + 1) seen
+      low_less e =
+          let none : floor ≡ 0 = t.floor_is ∙ (ap (λ (l : ℕ). l * places) e ∙ zero-mul places) in
+          ap (λ (table : List ℕ). suc (lacking_low places (p + 1) table)) was.1
+          ∙ low_mark places (p + 1) seen (floor + x) (omega (arith, t.inside)) turn_cell unstamped
 
       -- and above it not
-      low_same : (l : ℕ) → t.level ≡ suc l → lackingLow places (p + 1) seen' ≡ lackingLow places (p + 1) seen
+      low_same : (l : ℕ) → t.level ≡ suc l → lacking_low places (p + 1) seen' ≡ lacking_low places (p + 1) seen
       low_same l e =
-          let high : floor ≡ suc l * places = t.floor-is ∙ ap (λ (m : ℕ). m * places) e in
-          ap (lackingLow places (p + 1)) was.1 ∙ low-other places (p + 1) seen (floor + x) (omega (arith, suc-mul l places))
+          let high : floor ≡ suc l * places = t.floor_is ∙ ap (λ (m : ℕ). m * places) e in
+          ap (lacking_low places (p + 1)) was.1 ∙ low_other places (p + 1) seen (floor + x) (omega (arith, suc-mul l places))
 
       -- what the bound becomes: a step on level 0 makes room for one branch, and a step above it leads ahead
-      bounded-on : (l y : ℕ) → t.level ≡ l → x < y → suc (waiting + lackingLow places (p + 1) seen') ≤ places + reach l y
-      bounded-on zero y e h =
-          let was-bounded : waiting + lackingLow places (p + 1) seen ≤ places + reach 0 x =
-          subst (λ (l : ℕ). waiting + lackingLow places (p + 1) seen ≤ places + reach l x) e (t.bounded lives) in
-          omega (arith, low-less e)
-      bounded-on (suc l) y e h =
-          let was-bounded : waiting + lackingLow places (p + 1) seen ≤ places + reach (suc l) x =
-          subst (λ (l : ℕ). waiting + lackingLow places (p + 1) seen ≤ places + reach l x) e (t.bounded lives) in
-          omega (arith, low_same l e, reach-high l x, reach-high l y)
+      bounded_on : (l y : ℕ) → t.level ≡ l → x < y → suc (waiting + lacking_low places (p + 1) seen') ≤ places + reach l y
+      bounded_on zero y e h =
+          let was-bounded : waiting + lacking_low places (p + 1) seen ≤ places + reach 0 x =
+          subst (λ (l : ℕ). waiting + lacking_low places (p + 1) seen ≤ places + reach l x) e (t.bounded lives) in
+          omega (arith, low_less e)
+      bounded_on (suc l) y e h =
+          let was-bounded : waiting + lacking_low places (p + 1) seen ≤ places + reach (suc l) x =
+          subst (λ (l : ℕ). waiting + lacking_low places (p + 1) seen ≤ places + reach l x) e (t.bounded lives) in
+          omega (arith, low_same l e, reach_high l x, reach_high l y)
 
-      low-fewer : lackingLow places (p + 1) seen' ≤ lackingLow places (p + 1) seen
-      low-fewer = look t.level refl
+      low_fewer : lacking_low places (p + 1) seen' ≤ lacking_low places (p + 1) seen
+      low_fewer = look t.level refl
         where
-          look : (l : ℕ) → t.level ≡ l → lackingLow places (p + 1) seen' ≤ lackingLow places (p + 1) seen
-          look zero e = omega (arith, low-less e)
+          look : (l : ℕ) → t.level ≡ l → lacking_low places (p + 1) seen' ≤ lacking_low places (p + 1) seen
+          look zero e = omega (arith, low_less e)
           look (suc l) e = omega (arith, low_same l e)
 
-      waits-on : Waits places t.asked.wired.deep pending (lackingLow places (p + 1) seen') waiting t.waiters
-      waits-on =
-          waits-fewer places t.asked.wired.deep pending (lackingLow places (p + 1) seen) (lackingLow places (p + 1) seen') waiting t.waiters low-fewer t.waits
+      waits_on : Waits places t.asked.wired.deep pending (lacking_low places (p + 1) seen') waiting t.waiters
+      waits_on =
+          waits_fewer places t.asked.wired.deep pending (lacking_low places (p + 1) seen) (lacking_low places (p + 1) seen') waiting t.waiters low_fewer t.waits
 
       -- a step more can be counted
-      pub turn-countable : steps + 1 < 2 ^ 32
-      turn-countable = omega (arith, marked-lacking, t.each, t.asked.countable)
+      pub turn_countable : steps + 1 < 2 ^ 32
+      turn_countable = omega (arith, marked_lacking, t.each, t.asked.countable)
 
       -- the loop gets shorter, if at most one branch more waits
-      pub less-new : (waiting' : ℕ) (alive' goes' : Bool) → waiting' ≤ waiting + 1 → turns p seen' waiting' alive' goes' < turns p seen waiting alive goes
-      less-new waiting' alive' goes' h =
+      pub less_new : (waiting' : ℕ) (alive' goes' : Bool) → waiting' ≤ waiting + 1 → turns p seen' waiting' alive' goes' < turns p seen waiting alive goes
+      less_new waiting' alive' goes' h =
           let one : ◌≡◌ {A = ℕ} (cond goes 1 0) 1 = ap (λ (g : Bool). cond g 1 0) go in
           let first : ◌≡◌ {A = ℕ} (cond alive 1 0) 1 = ap (λ (a : Bool). cond a 1 0) lives in
-          omega (arith, marked-lacking, at_most_one alive', at_most_one goes')
+          omega (arith, marked_lacking, at_most_one alive', at_most_one goes')
 
       module _ (kind next a n : ℕ) (read : Reads code x kind next a n) where
-        next-inside : kind < 8 → next < places
-        next-inside h = subst (λ (y : ℕ). y < places) (sym read.1) (t.asked.wired.follows x t.inside (omega (arith, read.0)))
+        next_inside : kind < 8 → next < places
+        next_inside h = subst (λ (y : ℕ). y < places) (sym read.1) (t.asked.wired.follows x t.inside (omega (arith, read.0)))
 
-        next-ahead : kind < 5 → x < next
-        next-ahead h = subst (λ (y : ℕ). x < y) (sym read.1) (t.asked.wired.ahead x t.inside (omega (arith, read.0)))
+        next_ahead : kind < 5 → x < next
+        next_ahead h = subst (λ (y : ℕ). x < y) (sym read.1) (t.asked.wired.ahead x t.inside (omega (arith, read.0)))
 
         -- what the places of each kind ask
-        pub lead-slots : Slots kind a n
-        lead-slots =
+        pub lead_slots : Slots kind a n
+        lead_slots =
             subst (λ (k : ℕ). Slots k a n) (sym read.0)
-            (subst₂ (λ (b m : ℕ). Slots (placeKindAt code x) b m) (sym read.2) (sym read.3) (t.asked.wired.slots x t.inside))
+            (subst₂ (λ (b m : ℕ). Slots (place_kind_at code x) b m) (sym read.2) (sym read.3) (t.asked.wired.slots x t.inside))
 
         -- a floor of 0 is that of level 0
-        level-zero : (l : ℕ) → t.level ≡ l → floor ≡ 0 → t.level ≡ 0
-        level-zero zero e none = e
-        level-zero (suc l) e none =
-            let high : floor ≡ suc l * places = t.floor-is ∙ ap (λ (m : ℕ). m * places) e in
+        level_zero : (l : ℕ) → t.level ≡ l → floor ≡ 0 → t.level ≡ 0
+        level_zero zero e none = e
+        level_zero (suc l) e none =
+            let high : floor ≡ suc l * places = t.floor_is ∙ ap (λ (m : ℕ). m * places) e in
             absurd (omega (arith, suc-mul l places, t.inside))
 
         -- where a place leads on, the bound holds again
-        bounded-lead : 0 < kind → kind < 6 → (goes' : Bool) (floor' : ℕ) (rows' : Rows) → Leads kind a n p places floor rows goes' floor' rows' → goes' ≡ true
-            → waiting + lackingLow places (p + 1) seen' ≤ places + reach (levelAfter kind t.level) next
-        bounded-lead lo hi goes' floor' rows' made ongoing = five (ℕ_discrete kind 5)
+        bounded_lead : 0 < kind → kind < 6 → (goes' : Bool) (floor' : ℕ) (rows' : Rows) → Leads kind a n p places floor rows goes' floor' rows' → goes' ≡ true
+            → waiting + lacking_low places (p + 1) seen' ≤ places + reach (level_after kind t.level) next
+        bounded_lead lo hi goes' floor' rows' made ongoing = five (ℕ_discrete kind 5)
           where
-            four : (kind ≡ 5 → ⊥) → Dec (kind ≡ 4) → waiting + lackingLow places (p + 1) seen' ≤ places + reach (levelAfter kind t.level) next
+            four : (kind ≡ 5 → ⊥) → Dec (kind ≡ 4) → waiting + lacking_low places (p + 1) seen' ≤ places + reach (level_after kind t.level) next
             four n5 (yes e) =
-                let after : levelAfter kind t.level ≡ suc t.level = ap (λ (k : ℕ). levelAfter k t.level) e ∙ omega arith in
-                subst (λ (l : ℕ). waiting + lackingLow places (p + 1) seen' ≤ places + reach l next) (sym after)
-                (omega (arith, bounded-on t.level next refl (next-ahead (omega arith)), reach-most t.level next, reach-high t.level next))
+                let after : level_after kind t.level ≡ suc t.level = ap (λ (k : ℕ). level_after k t.level) e ∙ omega arith in
+                subst (λ (l : ℕ). waiting + lacking_low places (p + 1) seen' ≤ places + reach l next) (sym after)
+                (omega (arith, bounded_on t.level next refl (next_ahead (omega arith)), reach_most t.level next, reach_high t.level next))
             four n5 (no n4) =
-                let after : levelAfter kind t.level ≡ t.level =
+                let after : level_after kind t.level ≡ t.level =
                 ap (λ (b : Bool). cond b 0 (cond (eqb kind 4) (t.level + 1) t.level)) (ne_eqb kind 5 n5)
                 ∙ ap (λ (b : Bool). cond b (t.level + 1) t.level) (ne_eqb kind 4 n4) in
-                subst (λ (l : ℕ). waiting + lackingLow places (p + 1) seen' ≤ places + reach l next) (sym after)
-                (omega (arith, bounded-on t.level next refl (next-ahead (omega arith))))
+                subst (λ (l : ℕ). waiting + lacking_low places (p + 1) seen' ≤ places + reach l next) (sym after)
+                (omega (arith, bounded_on t.level next refl (next_ahead (omega arith))))
 
-            five : Dec (kind ≡ 5) → waiting + lackingLow places (p + 1) seen' ≤ places + reach (levelAfter kind t.level) next
+            five : Dec (kind ≡ 5) → waiting + lacking_low places (p + 1) seen' ≤ places + reach (level_after kind t.level) next
             five (yes e) =
-                let bottom : t.level ≡ 0 = level-zero t.level refl (made.ends e ongoing) in
-                subst (λ (k : ℕ). waiting + lackingLow places (p + 1) seen' ≤ places + reach (levelAfter k t.level) next) (sym e)
-                (omega (arith, bounded-on 0 (suc x) bottom (omega arith)))
+                let bottom : t.level ≡ 0 = level_zero t.level refl (made.ends e ongoing) in
+                subst (λ (k : ℕ). waiting + lacking_low places (p + 1) seen' ≤ places + reach (level_after k t.level) next) (sym e)
+                (omega (arith, bounded_on 0 (suc x) bottom (omega arith)))
             five (no n5) = four n5 (ℕ_discrete kind 4)
 
-        pub turn-lead : 0 < kind → kind < 6 → (goes' : Bool) (floor' : ℕ) (rows' : Rows) → Leads kind a n p places floor rows goes' floor' rows'
+        pub turn_lead : 0 < kind → kind < 6 → (goes' : Bool) (floor' : ℕ) (rows' : Rows) → Leads kind a n p places floor rows goes' floor' rows'
             → Turn code pattern there byte places p seen₀ taken₀ list₀ pending₀ x₀ rows₀ count₀ steps₀
             seen' taken list pending next floor' rows' count (steps + 1) waiting goes' goes done
-        turn-lead lo hi goes' floor' rows' made = record {
+        turn_lead lo hi goes' floor' rows' made = record {
           asked = t.asked;
-          level = levelAfter kind t.level;
+          level = level_after kind t.level;
           waiters = t.waiters;
-          inside = next-inside (omega arith);
+          inside = next_inside (omega arith);
           low =
-              subst₂ (λ (k y : ℕ). levelAfter k t.level ≤ t.asked.wired.deep y) (sym read.0) (sym read.1)
-              (deep-after t.asked.wired x t.level t.inside t.low (omega (arith, read.0)) (omega (arith, read.0)));
-          rows_long = made.same-long ∙ t.rows_long;
-          floor-is = made.raises t.level t.floor-is;
-          long = marked-long;
-          taken-long = t.taken-long;
-          list-long = t.list-long;
-          pending-long = t.pending-long;
-          under = marked-under;
+              subst₂ (λ (k y : ℕ). level_after k t.level ≤ t.asked.wired.deep y) (sym read.0) (sym read.1)
+              (deep_after t.asked.wired x t.level t.inside t.low (omega (arith, read.0)) (omega (arith, read.0)));
+          rows_long = made.same_long ∙ t.rows_long;
+          floor_is = made.raises t.level t.floor_is;
+          long = marked_long;
+          taken_long = t.taken_long;
+          list_long = t.list_long;
+          pending_long = t.pending_long;
+          under = marked_under;
           carried = t.carried;
-          each = omega (arith, marked-lacking, t.each);
-          fewer = omega (arith, marked-lacking, t.fewer);
+          each = omega (arith, marked_lacking, t.each);
+          fewer = omega (arith, marked_lacking, t.fewer);
           unwon = t.unwon;
-          waits = waits-on;
-          bounded = bounded-lead lo hi goes' floor' rows' made;
+          waits = waits_on;
+          bounded = bounded_lead lo hi goes' floor' rows' made;
           stands = λ line along k s sh h.
               let final = visit k (decode code pattern places) line p (at x₀ 0 rows₀) s in
-              let ts = cond goes' (at next (levelAfter kind t.level) rows' ∷ t.waiters) t.waiters in
+              let ts = cond goes' (at next (level_after kind t.level) rows' ∷ t.waiters) t.waiters in
               subst₂ (λ (g d : Bool). Stands code pattern line places p seen' taken list count (steps + 1) g d ts final) (sym go) (sym (t.unwon go))
               (subst (λ (table : List ℕ). Stands code pattern line places p table taken list count (steps + 1) true false ts final) (sym cell.1)
-              (stands-lead code pattern line places p seen taken list count steps x t.level rows t.waiters final t.inside room fresh cell.0
-              (going line along lives go k s sh h) new kind next a n read floor t.floor-is goes' floor' rows' made));
+              (stands_lead code pattern line places p seen taken list count steps x t.level rows t.waiters final t.inside room fresh cell.0
+              (going line along lives go k s sh h) new kind next a n read floor t.floor_is goes' floor' rows' made));
         }
 
-        pub settle-asked : 6 ≤ kind → Settling pattern p kind next a n taken list count
-        settle-asked lo = record {
+        pub settle_asked : 6 ≤ kind → Settling pattern p kind next a n taken list count
+        settle_asked lo = record {
           last = lo;
           early = t.asked.early;
-          few = omega (arith, t.carried.taken-long, t.asked.wired.few);
-          inside = λ h. omega (arith, next-inside h, t.carried.taken-long);
+          few = omega (arith, t.carried.taken_long, t.asked.wired.few);
+          inside = λ h. omega (arith, next_inside h, t.carried.taken_long);
           ranges = λ e. omega (arith, t.asked.wired.ranges x t.inside (sym read.0 ∙ e), read.2, read.3);
-          carried = subst (λ (m : ℕ). Carried m (p + 1) taken list count) (sym t.carried.taken-long) t.carried;
+          carried = subst (λ (m : ℕ). Carried m (p + 1) taken list count) (sym t.carried.taken_long) t.carried;
         }
 
-        pub turn-settle : (taken' list' : List ℕ) (count' : ℕ) (done' : Bool) → length taken' ≡ length taken → length list' ≡ length list
+        pub turn_settle : (taken' list' : List ℕ) (count' : ℕ) (done' : Bool) → length taken' ≡ length taken → length list' ≡ length list
             → Settles pattern there byte p kind next a n rows taken list count taken' list' count' done'
             → Turn code pattern there byte places p seen₀ taken₀ list₀ pending₀ x₀ rows₀ count₀ steps₀
             seen' taken' list' pending x floor rows count' (steps + 1) waiting false (not done') done'
-        turn-settle taken' list' count' done' same_taken same-list made = record {
+        turn_settle taken' list' count' done' same_taken same-list made = record {
           asked = t.asked;
           level = t.level;
           waiters = t.waiters;
           inside = t.inside;
           low = t.low;
           rows_long = t.rows_long;
-          floor-is = t.floor-is;
-          long = marked-long;
-          taken-long = same_taken ∙ t.taken-long;
-          list-long = same-list ∙ t.list-long;
-          pending-long = t.pending-long;
-          under = marked-under;
-          carried = subst (λ (m : ℕ). Carried m (p + 1) taken' list' count') t.carried.taken-long made.carried;
-          each = omega (arith, marked-lacking, t.each);
-          fewer = omega (arith, marked-lacking, t.fewer);
+          floor_is = t.floor_is;
+          long = marked_long;
+          taken_long = same_taken ∙ t.taken_long;
+          list_long = same-list ∙ t.list_long;
+          pending_long = t.pending_long;
+          under = marked_under;
+          carried = subst (λ (m : ℕ). Carried m (p + 1) taken' list' count') t.carried.taken_long made.carried;
+          each = omega (arith, marked_lacking, t.each);
+          fewer = omega (arith, marked_lacking, t.fewer);
           unwon = not-true done';
-          waits = waits-on;
+          waits = waits_on;
           bounded = λ f. never f;
           stands = λ line along k s sh h.
               let final = visit k (decode code pattern places) line p (at x₀ 0 rows₀) s in
               subst (λ (table : List ℕ). Stands code pattern line places p table taken' list' count' (steps + 1) (not done') done' t.waiters final) (sym cell.1)
-              (stands-settle code pattern line places p seen taken list count steps x t.level rows t.waiters final t.inside room fresh cell.0
+              (stands_settle code pattern line places p seen taken list count steps x t.level rows t.waiters final t.inside room fresh cell.0
               (going line along lives go k s sh h) new kind next a n read there byte along taken' list' count' done' made);
         }
 
         module _ (forks : kind ≡ 0) where
-          other-inside : a < places
-          other-inside = subst (λ (y : ℕ). y < places) (sym read.2) (t.asked.wired.forks x t.inside (sym read.0 ∙ forks))
+          other_inside : a < places
+          other_inside = subst (λ (y : ℕ). y < places) (sym read.2) (t.asked.wired.forks x t.inside (sym read.0 ∙ forks))
 
-          other-ahead : x < a
-          other-ahead = subst (λ (y : ℕ). x < y) (sym read.2) (t.asked.wired.ahead-other x t.inside (sym read.0 ∙ forks))
+          other_ahead : x < a
+          other_ahead = subst (λ (y : ℕ). x < y) (sym read.2) (t.asked.wired.ahead_other x t.inside (sym read.0 ∙ forks))
 
           -- there is room for one branch more
-          pub fork-asked : (22 * waiting + 22 ≤ length pending) × (floor < 2 ^ 16) × (a < 2 ^ 16)
-          fork-asked = (
-            omega (arith, bounded-on t.level a refl other-ahead, reach-most t.level a, other-inside, t.asked.pending-long, t.pending-long),
-            omega (arith, turn-cell, t.long, t.asked.cells),
-            omega (arith, other-inside, t.asked.wired.few),
+          pub fork_asked : (22 * waiting + 22 ≤ length pending) × (floor < 2 ^ 16) × (a < 2 ^ 16)
+          fork_asked = (
+            omega (arith, bounded_on t.level a refl other_ahead, reach_most t.level a, other_inside, t.asked.pending_long, t.pending_long),
+            omega (arith, turn_cell, t.long, t.asked.cells),
+            omega (arith, other_inside, t.asked.wired.few),
           )
 
-          pub turn-fork : (pending' : List ℕ) → pending' ≡ waited pending waiting floor a rows
+          pub turn_fork : (pending' : List ℕ) → pending' ≡ waited pending waiting floor a rows
               → Turn code pattern there byte places p seen₀ taken₀ list₀ pending₀ x₀ rows₀ count₀ steps₀
               seen' taken list pending' next floor rows count (steps + 1) (waiting + 1) alive goes done
-          turn-fork pending' same =
+          turn_fork pending' same =
               let deep-next : t.level ≤ t.asked.wired.deep next =
               subst (λ (y : ℕ). t.level ≤ t.asked.wired.deep y) (sym read.1) (omega (arith, t.asked.wired.deeper x t.inside (omega (arith, read.0)), t.low)) in
               let deep-other : t.level ≤ t.asked.wired.deep a =
               subst (λ (y : ℕ). t.level ≤ t.asked.wired.deep y) (sym read.2)
-              (omega (arith, t.asked.wired.deeper-other x t.inside (sym read.0 ∙ forks), t.low)) in
+              (omega (arith, t.asked.wired.deeper_other x t.inside (sym read.0 ∙ forks), t.low)) in
               let one_more : suc waiting ≡ waiting + 1 = omega arith in
               record {
                 asked = t.asked;
                 level = t.level;
                 waiters = at a t.level rows ∷ t.waiters;
-                inside = next-inside (omega arith);
+                inside = next_inside (omega arith);
                 low = deep-next;
                 rows_long = t.rows_long;
-                floor-is = t.floor-is;
-                long = marked-long;
-                taken-long = t.taken-long;
-                list-long = t.list-long;
-                pending-long = ap length same ∙ (waited-long pending waiting floor a rows t.rows_long fork-asked.0 ∙ t.pending-long);
-                under = marked-under;
+                floor_is = t.floor_is;
+                long = marked_long;
+                taken_long = t.taken_long;
+                list_long = t.list_long;
+                pending_long = ap length same ∙ (waited_long pending waiting floor a rows t.rows_long fork_asked.0 ∙ t.pending_long);
+                under = marked_under;
                 carried = t.carried;
-                each = omega (arith, marked-lacking, t.each);
-                fewer = omega (arith, marked-lacking, t.fewer);
+                each = omega (arith, marked_lacking, t.each);
+                fewer = omega (arith, marked_lacking, t.fewer);
                 unwon = t.unwon;
                 waits =
-                    subst₂ (λ (m : List ℕ) (n : ℕ). Waits places t.asked.wired.deep m (lackingLow places (p + 1) seen') n (at a t.level rows ∷ t.waiters))
+                    subst₂ (λ (m : List ℕ) (n : ℕ). Waits places t.asked.wired.deep m (lacking_low places (p + 1) seen') n (at a t.level rows ∷ t.waiters))
                     (sym same) one_more
-                    (waits-more pending waiting floor a rows t.rows_long fork-asked.0 places t.asked.wired.deep
-                    (lackingLow places (p + 1) seen) (lackingLow places (p + 1) seen')
-                    t.level t.waiters low-fewer t.floor-is other-inside deep-other (omega (arith, bounded-on t.level a refl other-ahead)) t.waits);
-                bounded = λ e. omega (arith, bounded-on t.level next refl (next-ahead (omega arith)));
+                    (waits_more pending waiting floor a rows t.rows_long fork_asked.0 places t.asked.wired.deep
+                    (lacking_low places (p + 1) seen) (lacking_low places (p + 1) seen')
+                    t.level t.waiters low_fewer t.floor_is other_inside deep-other (omega (arith, bounded_on t.level a refl other_ahead)) t.waits);
+                bounded = λ e. omega (arith, bounded_on t.level next refl (next_ahead (omega arith)));
                 stands = λ line along k s sh h.
                     let final = visit k (decode code pattern places) line p (at x₀ 0 rows₀) s in
                     let ts = at next t.level rows ∷ at a t.level rows ∷ t.waiters in
@@ -539,6 +539,6 @@ module _ {code pattern : List ℕ} {there : Bool} {byte places p : ℕ} {seen₀
                     (sym lives)
                     (subst₂ (λ (g d : Bool). Stands code pattern line places p seen' taken list count (steps + 1) g d ts final) (sym go) (sym (t.unwon go))
                     (subst (λ (table : List ℕ). Stands code pattern line places p table taken list count (steps + 1) true false ts final) (sym cell.1)
-                    (stands-fork code pattern line places p seen taken list count steps x t.level rows t.waiters final t.inside room fresh cell.0
+                    (stands_fork code pattern line places p seen taken list count steps x t.level rows t.waiters final t.inside room fresh cell.0
                     (going line along lives go k s sh h) new kind next a n read forks)));
               }

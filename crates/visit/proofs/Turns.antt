@@ -10,14 +10,14 @@ use borrow.Author.Tests.{not-true, not-false}
 use lib.Dec.{eqb}
 use lib.ListN.{length, get_or, set}
 use Rattle.paper.specs.Rows.{Rows}
-use Rattle.paper.specs.Machine.{Place, Thread, at, State, isSeen, isWon, mark, follow, arrive, visit, move_at}
-use Rattle.paper.specs.Tables.{decode, placeAt, place_of, placeKindAt, placeNextAt, placeFirstAt, placeManyAt}
-use Rattle.paper.proofs.machine.Once.{visit-blocked}
-use Rattle.threads.specs.Threads.{lacking, rowsIn}
+use Rattle.paper.specs.Machine.{Place, Thread, at, State, is_seen, is_won, mark, follow, arrive, visit, move_at}
+use Rattle.paper.specs.Tables.{decode, place_at, place_of, place_kind_at, place_next_at, place_first_at, place_many_at}
+use Rattle.paper.proofs.machine.Once.{visit_blocked}
+use Rattle.threads.specs.Threads.{lacking, rows_in}
 use Rattle.moves.specs.Shows.{AheadIn, Shows}
-use Rattle.moves.specs.Moves.{levelAfter, Leads, Settles}
-use Rattle.threads.proofs.Stamps.{lacking-mark, mark-same}
-use Rattle.visit.proofs.Cells.{decode-at, blocked-shown, shows-mark}
+use Rattle.moves.specs.Moves.{level_after, Leads, Settles}
+use Rattle.threads.proofs.Stamps.{lacking_mark, mark_same}
+use Rattle.visit.proofs.Cells.{decode_at, blocked_shown, shows_mark}
 
 -- ---- what is left of a visit
 
@@ -33,29 +33,29 @@ Remains false code line p unseen ts s final = final ≡ s
 
 module _ (code : List Place) (line : List ℕ) (p : ℕ) where
   -- with fewer pairs not seen the bounds still do
-  unwinds-fewer : (unseen fewer : ℕ) → fewer ≤ unseen → (ts : List Thread) (s final : State) → Unwinds code line p unseen ts s final → Unwinds code line p fewer ts s final
-  unwinds-fewer unseen fewer h [] s final u = u
-  unwinds-fewer unseen fewer h (t ∷ ts) s final u = (u.0, omega (arith, u.1), unwinds-fewer unseen fewer h ts (visit u.0 code line p t s) final u.2)
+  unwinds_fewer : (unseen fewer : ℕ) → fewer ≤ unseen → (ts : List Thread) (s final : State) → Unwinds code line p unseen ts s final → Unwinds code line p fewer ts s final
+  unwinds_fewer unseen fewer h [] s final u = u
+  unwinds_fewer unseen fewer h (t ∷ ts) s final u = (u.0, omega (arith, u.1), unwinds_fewer unseen fewer h ts (visit u.0 code line p t s) final u.2)
 
   -- a winner stays
-  unwinds-won : (unseen : ℕ) (ts : List Thread) (s final : State) → isWon s.won ≡ true → Unwinds code line p unseen ts s final → final ≡ s
-  unwinds-won unseen [] s final won u = u
-  unwinds-won unseen (t ∷ ts) s final won u =
+  unwinds_won : (unseen : ℕ) (ts : List Thread) (s final : State) → is_won s.won ≡ true → Unwinds code line p unseen ts s final → final ≡ s
+  unwinds_won unseen [] s final won u = u
+  unwinds_won unseen (t ∷ ts) s final won u =
       let same : visit u.0 code line p t s ≡ s =
-      visit-blocked code line p u.0 t s (ap (λ (b : Bool). b || isSeen t.place t.level s.seen) won) in
-      unwinds-won unseen ts s final won (subst (λ (after : State). Unwinds code line p unseen ts after final) same u.2)
+      visit_blocked code line p u.0 t s (ap (λ (b : Bool). b || is_seen t.place t.level s.seen) won) in
+      unwinds_won unseen ts s final won (subst (λ (after : State). Unwinds code line p unseen ts after final) same u.2)
 
   -- a thread that goes on, or does not
-  unwinds-lead : (goes : Bool) (unseen k : ℕ) → unseen < k → (t : Thread) (ts : List Thread) (s final : State)
+  unwinds_lead : (goes : Bool) (unseen k : ℕ) → unseen < k → (t : Thread) (ts : List Thread) (s final : State)
       → Unwinds code line p unseen ts (cond goes (visit k code line p t s) s) final → Unwinds code line p unseen (cond goes (t ∷ ts) ts) s final
-  unwinds-lead true unseen k h t ts s final u = (k, h, u)
-  unwinds-lead false unseen k h t ts s final u = u
+  unwinds_lead true unseen k h t ts s final u = (k, h, u)
+  unwinds_lead false unseen k h t ts s final u = u
 
   -- a place that leads nowhere, or wins
-  unwinds-settle : (done : Bool) (unseen : ℕ) (ts : List Thread) (s final : State) (rows : Rows) → s.won ≡ cond done (some rows) none
+  unwinds_settle : (done : Bool) (unseen : ℕ) (ts : List Thread) (s final : State) (rows : Rows) → s.won ≡ cond done (some rows) none
       → Unwinds code line p unseen ts s final → Remains (not done) code line p unseen ts s final
-  unwinds-settle true unseen ts s final rows won u = unwinds-won unseen ts s final (ap isWon won) u
-  unwinds-settle false unseen ts s final rows won u = u
+  unwinds_settle true unseen ts s final rows won u = unwinds_won unseen ts s final (ap is_won won) u
+  unwinds_settle false unseen ts s final rows won u = u
 
 -- the tables show a state from which what is left of the visit, if anything, gives the final state
 pub record Stands (code pattern line : List ℕ) (places p : ℕ) (seen taken list : List ℕ) (count steps : ℕ) (goes done : Bool) (ts : List Thread) (final : State) : Type 0 where
@@ -70,34 +70,34 @@ record Marked (code pattern line : List ℕ) (places p : ℕ) (seen taken list :
   shows : Shows places (p + 1) (set seen (l * places + x) (p + 1)) taken list count (steps + 1) false state
   enough : lacking (p + 1) (set seen (l * places + x) (p + 1)) < fuel
   rest : Unwinds (decode code pattern places) line p (lacking (p + 1) (set seen (l * places + x) (p + 1))) ts
-      (follow (visit fuel (decode code pattern places) line p) (at x l rows) (move_at (placeAt code pattern x) line p l rows) state) final
+      (follow (visit fuel (decode code pattern places) line p) (at x l rows) (move_at (place_at code pattern x) line p l rows) state) final
 
 -- the four numbers of a place, as they were read
 abbrev pub Reads : List ℕ → ℕ → ℕ → ℕ → ℕ → ℕ → Type 0
-Reads code x kind next a n = (kind ≡ placeKindAt code x) × (next ≡ placeNextAt code x) × (a ≡ placeFirstAt code x) × (n ≡ placeManyAt code x)
+Reads code x kind next a n = (kind ≡ place_kind_at code x) × (next ≡ place_next_at code x) × (a ≡ place_first_at code x) × (n ≡ place_many_at code x)
 
-read-place : (code pattern : List ℕ) (x kind next a n : ℕ) → Reads code x kind next a n → placeAt code pattern x ≡ place_of pattern kind next a n
-read-place code pattern x kind next a n r =
-    ap (λ (k : ℕ). place_of pattern k (placeNextAt code x) (placeFirstAt code x) (placeManyAt code x)) (sym r.0)
-    ∙ (ap (λ (k : ℕ). place_of pattern kind k (placeFirstAt code x) (placeManyAt code x)) (sym r.1)
-    ∙ (ap (λ (k : ℕ). place_of pattern kind next k (placeManyAt code x)) (sym r.2) ∙ ap (λ (k : ℕ). place_of pattern kind next a k) (sym r.3)))
+read_place : (code pattern : List ℕ) (x kind next a n : ℕ) → Reads code x kind next a n → place_at code pattern x ≡ place_of pattern kind next a n
+read_place code pattern x kind next a n r =
+    ap (λ (k : ℕ). place_of pattern k (place_next_at code x) (place_first_at code x) (place_many_at code x)) (sym r.0)
+    ∙ (ap (λ (k : ℕ). place_of pattern kind k (place_first_at code x) (place_many_at code x)) (sym r.1)
+    ∙ (ap (λ (k : ℕ). place_of pattern kind next k (place_many_at code x)) (sym r.2) ∙ ap (λ (k : ℕ). place_of pattern kind next a k) (sym r.3)))
 
 module _ (code pattern line : List ℕ) (places p : ℕ) (seen taken list : List ℕ) (count steps x l : ℕ) (rows : Rows) (ts : List Thread) (final : State)
     (inside : x < places) (room : l * places + x < length seen) (fresh : Bool) (was : fresh ≡ not (eqb (get_or seen (l * places + x) 0) (p + 1)))
     (s : Stands code pattern line places p seen taken list count steps true false (at x l rows ∷ ts) final) where
   -- the pair was seen
-  pub stands-seen : fresh ≡ false → Stands code pattern line places p (set seen (l * places + x) (p + 1)) taken list count steps true false ts final
-  stands-seen e =
+  pub stands_seen : fresh ≡ false → Stands code pattern line places p (set seen (l * places + x) (p + 1)) taken list count steps true false ts final
+  stands_seen e =
       let stamped : eqb (get_or seen (l * places + x) 0) (p + 1) ≡ true = not-false (eqb (get_or seen (l * places + x) 0) (p + 1)) (sym was ∙ e) in
-      let same : set seen (l * places + x) (p + 1) ≡ seen = mark-same (p + 1) seen (l * places + x) stamped in
+      let same : set seen (l * places + x) (p + 1) ≡ seen = mark_same (p + 1) seen (l * places + x) stamped in
       subst (λ (table : List ℕ). Stands code pattern line places p table taken list count steps true false ts final) (sym same)
       (record {
         state = s.state;
         shows = s.shows;
         rest =
             subst (λ (after : State). Unwinds (decode code pattern places) line p (lacking (p + 1) seen) ts after final)
-            (visit-blocked (decode code pattern places) line p s.rest.0 (at x l rows) s.state
-            (blocked-shown places (p + 1) seen taken list count steps s.state s.shows x l rows inside ∙ stamped))
+            (visit_blocked (decode code pattern places) line p s.rest.0 (at x l rows) s.state
+            (blocked_shown places (p + 1) seen taken list count steps s.state s.shows x l rows inside ∙ stamped))
             s.rest.2;
       })
 
@@ -109,7 +109,7 @@ module _ (code pattern line : List ℕ) (places p : ℕ) (seen taken list : List
       unstamped = not-true (eqb (get_or seen (l * places + x) 0) (p + 1)) (sym was ∙ e)
 
       one_less : suc (lacking (p + 1) (set seen (l * places + x) (p + 1))) ≡ lacking (p + 1) seen
-      one_less = lacking-mark (p + 1) seen (l * places + x) room unstamped
+      one_less = lacking_mark (p + 1) seen (l * places + x) room unstamped
 
       look : (k : ℕ) → lacking (p + 1) seen < k
           → Unwinds (decode code pattern places) line p (lacking (p + 1) seen) ts (visit k (decode code pattern places) line p (at x l rows) s.state) final
@@ -118,16 +118,16 @@ module _ (code pattern line : List ℕ) (places p : ℕ) (seen taken list : List
       look (suc k) h r = record {
         fuel = k;
         state = mark (at x l rows) s.state;
-        shows = shows-mark places (p + 1) seen taken list count steps s.state s.shows x l rows inside room;
+        shows = shows_mark places (p + 1) seen taken list count steps s.state s.shows x l rows inside room;
         enough = omega (arith, one_less);
         rest =
-            unwinds-fewer (decode code pattern places) line p (lacking (p + 1) seen) (lacking (p + 1) (set seen (l * places + x) (p + 1))) (omega (arith, one_less)) ts
-            (follow (visit k (decode code pattern places) line p) (at x l rows) (move_at (placeAt code pattern x) line p l rows) (mark (at x l rows) s.state)) final
+            unwinds_fewer (decode code pattern places) line p (lacking (p + 1) seen) (lacking (p + 1) (set seen (l * places + x) (p + 1))) (omega (arith, one_less)) ts
+            (follow (visit k (decode code pattern places) line p) (at x l rows) (move_at (place_at code pattern x) line p l rows) (mark (at x l rows) s.state)) final
             (subst (λ (after : State). Unwinds (decode code pattern places) line p (lacking (p + 1) seen) ts after final)
             (ap (λ (b : Bool). arrive (visit k (decode code pattern places) line p) (decode code pattern places) line p b (at x l rows) s.state)
-            (blocked-shown places (p + 1) seen taken list count steps s.state s.shows x l rows inside ∙ unstamped)
+            (blocked_shown places (p + 1) seen taken list count steps s.state s.shows x l rows inside ∙ unstamped)
             ∙ ap (λ (place : Place). follow (visit k (decode code pattern places) line p) (at x l rows) (move_at place line p l rows) (mark (at x l rows) s.state))
-            (decode-at code pattern places x inside))
+            (decode_at code pattern places x inside))
             r);
       }
 
@@ -139,30 +139,30 @@ module _ (code pattern line : List ℕ) (places p : ℕ) (seen taken list : List
     followed m after e =
         subst (λ (st : State). Unwinds (decode code pattern places) line p (lacking (p + 1) (set seen (l * places + x) (p + 1))) ts st final)
         (ap (λ (place : Place). follow (visit m.fuel (decode code pattern places) line p) (at x l rows) (move_at place line p l rows) m.state)
-        (read-place code pattern x kind next a n read) ∙ e)
+        (read_place code pattern x kind next a n read) ∙ e)
         m.rest
 
     -- the place leads on
-    pub stands-lead : (floor : ℕ) → floor ≡ l * places → (goes : Bool) (floor' : ℕ) (rows' : Rows) → Leads kind a n p places floor rows goes floor' rows'
+    pub stands_lead : (floor : ℕ) → floor ≡ l * places → (goes : Bool) (floor' : ℕ) (rows' : Rows) → Leads kind a n p places floor rows goes floor' rows'
         → Stands code pattern line places p (set seen (l * places + x) (p + 1)) taken list count (steps + 1) true false
-        (cond goes (at next (levelAfter kind l) rows' ∷ ts) ts) final
-    stands-lead floor low goes floor' rows' made =
+        (cond goes (at next (level_after kind l) rows' ∷ ts) ts) final
+    stands_lead floor low goes floor' rows' made =
         let m = marked new in
-        let t = at next (levelAfter kind l) rows' in
+        let t = at next (level_after kind l) rows' in
         record {
           state = m.state;
           shows = m.shows;
           rest =
-              unwinds-lead (decode code pattern places) line p goes (lacking (p + 1) (set seen (l * places + x) (p + 1))) m.fuel m.enough t ts m.state final
+              unwinds_lead (decode code pattern places) line p goes (lacking (p + 1) (set seen (l * places + x) (p + 1))) m.fuel m.enough t ts m.state final
               (followed m (cond goes (visit m.fuel (decode code pattern places) line p t m.state) m.state)
               (made.follows l low pattern line next x (visit m.fuel (decode code pattern places) line p) m.state));
         }
 
     -- the place leads nowhere at once
-    pub stands-settle : (there : Bool) (byte : ℕ) → AheadIn line p there byte → (taken' list' : List ℕ) (count' : ℕ) (done : Bool)
+    pub stands_settle : (there : Bool) (byte : ℕ) → AheadIn line p there byte → (taken' list' : List ℕ) (count' : ℕ) (done : Bool)
         → Settles pattern there byte p kind next a n rows taken list count taken' list' count' done
         → Stands code pattern line places p (set seen (l * places + x) (p + 1)) taken' list' count' (steps + 1) (not done) done ts final
-    stands-settle there byte along taken' list' count' done made =
+    stands_settle there byte along taken' list' count' done made =
         let m = marked new in
         let after = follow (visit m.fuel (decode code pattern places) line p) (at x l rows) (move_at (place_of pattern kind next a n) line p l rows) m.state in
         let shown = made.shows line along places (set seen (l * places + x) (p + 1)) (steps + 1) x l (visit m.fuel (decode code pattern places) line p) m.state m.shows in
@@ -170,14 +170,14 @@ module _ (code pattern line : List ℕ) (places p : ℕ) (seen taken list : List
           state = after;
           shows = shown;
           rest =
-              unwinds-settle (decode code pattern places) line p done (lacking (p + 1) (set seen (l * places + x) (p + 1))) ts after final (rowsIn list' count')
+              unwinds_settle (decode code pattern places) line p done (lacking (p + 1) (set seen (l * places + x) (p + 1))) ts after final (rows_in list' count')
               shown.winner (followed m after refl);
         }
 
     -- the place is a fork: its other branch waits
-    pub stands-fork : kind ≡ 0
+    pub stands_fork : kind ≡ 0
         → Stands code pattern line places p (set seen (l * places + x) (p + 1)) taken list count (steps + 1) true false (at next l rows ∷ at a l rows ∷ ts) final
-    stands-fork e =
+    stands_fork e =
         let m = marked new in
         let go = visit m.fuel (decode code pattern places) line p in
         record {

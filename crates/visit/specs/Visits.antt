@@ -4,7 +4,7 @@ use Rattle.paper.specs.Limits.{absent}
 use Rattle.paper.specs.Rows.{Rows}
 use Rattle.paper.specs.Machine.{State, visit, at}
 use Rattle.paper.specs.Tables.{decode}
-use Rattle.threads.specs.Threads.{branchNumbers, lacking, Under}
+use Rattle.threads.specs.Threads.{branch_numbers, lacking, Under}
 use Rattle.moves.specs.Shows.{Shows, Carried}
 use Rattle.visit.specs.Wired.{Wired}
 
@@ -16,7 +16,7 @@ pub record Arrives (code pattern : List ℕ) (places p place : ℕ) (seen taken 
   pub cells : length seen < 2 ^ 16
   pub under : Under (p + 1) seen
   pub carried : Carried places (p + 1) taken list count
-  pub pending-long : branchNumbers * (2 * places) ≤ length pending
+  pub pending_long : branch_numbers * (2 * places) ≤ length pending
   pub countable : steps + lacking (p + 1) seen < 2 ^ 32
 
 -- what a visit of a thread on level 0 promises. Of every state that the tables show at entry, without a winner, they show at exit the state after the definition's visit,

@@ -2,7 +2,7 @@
 use borrow.Author.Rules.{rules}
 use Rattle.laying.proofs.any_star.Statement.{statement}
 use Rattle.laying.proofs.any_star.Tie as tie
-use Rattle.laying.proofs.Single.{star-laid}
+use Rattle.laying.proofs.Single.{star_laid}
 
 add-inside : tie.Need-overflow-add-inside
 add-inside c = search rules
@@ -36,14 +36,14 @@ same_length c = search rules
 
 returns : tie.Need-returns
 returns c =
-    let the-pass-fork = c.before.before.before.before.before.before.before.before.before.before.before.before.before.before.pass-fork in
+    let the-pass-fork = c.before.before.before.before.before.before.before.before.before.before.before.before.before.before.pass_fork in
     let the-put = c.before.before.before.before.before.before.before.before.before.before.put in
     let the-put2 = c.before.before.before.before.before.before.put2 in
     let the-put3 = c.before.before.put3 in
-    star-laid the-pass-fork.ensures the-put.ensures the-put2.ensures the-put3.ensures
+    star_laid the-pass-fork.ensures the-put.ensures the-put2.ensures the-put3.ensures
 
-pub any-star-spec : {M : Type 1} → statement M
-any-star-spec =
+pub any_star_spec : {M : Type 1} → statement M
+any_star_spec =
     tie.close
     (tie.spec
     add-inside

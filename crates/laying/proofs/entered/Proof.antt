@@ -13,5 +13,5 @@ returns-2 c =
     let the-if1 = c.if1 in
     simp (ne_eqb _ _ the-if1.false)
 
-pub entered-spec : {M : Type 1} → statement M
-entered-spec = tie.close (tie.spec returns returns-2)
+pub entered_spec : {M : Type 1} → statement M
+entered_spec = tie.close (tie.spec returns returns-2)

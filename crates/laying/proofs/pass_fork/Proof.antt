@@ -2,7 +2,7 @@
 use borrow.Author.Rules.{rules}
 use Rattle.laying.proofs.pass_fork.Statement.{statement}
 use Rattle.laying.proofs.pass_fork.Tie as tie
-use Rattle.laying.proofs.Single.{fork-greedy, fork-lazy}
+use Rattle.laying.proofs.Single.{fork_greedy, fork_lazy}
 
 put-requires : tie.Need-put-requires
 put-requires c κs = search rules
@@ -17,7 +17,7 @@ returns : tie.Need-returns
 returns c =
     let the-if1 = c.before.before.before.before.if1 in
     let the-put = c.before.before.put in
-    fork-greedy the-if1.true the-put.ensures
+    fork_greedy the-if1.true the-put.ensures
 
 same-length-2 : tie.Need-same-length-2
 same-length-2 c = search rules
@@ -26,8 +26,8 @@ returns-2 : tie.Need-returns-2
 returns-2 c =
     let the-if1 = c.before.before.before.before.if1 in
     let the-put2 = c.before.before.put2 in
-    fork-lazy the-if1.false the-put2.ensures
+    fork_lazy the-if1.false the-put2.ensures
 
-pub pass-fork-spec : {M : Type 1} → statement M
-pass-fork-spec =
+pub pass_fork_spec : {M : Type 1} → statement M
+pass_fork_spec =
     tie.close (tie.spec put-requires put-requires-2 same_length returns same-length-2 returns-2)

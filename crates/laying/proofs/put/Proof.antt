@@ -4,7 +4,7 @@ use lib.ListN.{length-set}
 use borrow.Author.Rules.{rules}
 use Rattle.laying.proofs.put.Statement.{statement}
 use Rattle.laying.proofs.put.Tie as tie
-use Rattle.laying.proofs.Stores.{put-stored}
+use Rattle.laying.proofs.Stores.{put_stored}
 
 mul-b : tie.Need-overflow-mul-b
 mul-b c = search rules
@@ -57,7 +57,7 @@ same_length c = search rules
 returns : tie.Need-returns
 returns c =
     let the-pre = c.requires in
-    put-stored _ _ _ _ _ _ the-pre.room
+    put_stored _ _ _ _ _ _ the-pre.room
 
 pub put_spec : {M : Type 1} → statement M
 put_spec =

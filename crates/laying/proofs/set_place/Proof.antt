@@ -2,7 +2,7 @@
 use borrow.Author.Rules.{rules}
 use Rattle.laying.proofs.set_place.Statement.{statement}
 use Rattle.laying.proofs.set_place.Tie as tie
-use Rattle.laying.proofs.Single.{range-laid, pairs-laid}
+use Rattle.laying.proofs.Single.{range_laid, pairs_laid}
 
 sub-if1 : tie.Need-overflow-sub-if1
 sub-if1 c = search rules
@@ -41,7 +41,7 @@ returns c =
     let the-wide = c.before.before.before.before.before.before.wide in
     let the-wide2 = c.before.before.before.before.wide2 in
     let the-put = c.before.before.put in
-    range-laid the-pre.0 the-if1.true the-wide.ensures.0 the-wide2.ensures.0 the-put.ensures
+    range_laid the-pre.0 the-if1.true the-wide.ensures.0 the-wide2.ensures.0 the-put.ensures
 
 same-length-2 : tie.Need-same-length-2
 same-length-2 c = search rules
@@ -50,10 +50,10 @@ returns-2 : tie.Need-returns-2
 returns-2 c =
     let the-pre = c.before.before.before.before.before.before.before.requires in
     let the-put2 = c.before.before.put2 in
-    pairs-laid the-pre.0 the-put2.ensures
+    pairs_laid the-pre.0 the-put2.ensures
 
-pub set-place-spec : {M : Type 1} → statement M
-set-place-spec =
+pub set_place_spec : {M : Type 1} → statement M
+set_place_spec =
     tie.close
     (tie.spec
     sub-if1

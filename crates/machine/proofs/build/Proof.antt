@@ -1,7 +1,7 @@
 -- Checking's refusals, or the machine that building wrote.
 use mathlib.Core.Path.{refl}
 use native.Mathlib.Omega.{arith}
-use Rattle.machine.proofs.Building.{tree_of, accepted-of, fault-of, builds-match, builds-search}
+use Rattle.machine.proofs.Building.{tree_of, accepted_of, fault_of, builds_match, builds_search}
 use borrow.Author.Rules.{rules}
 use Rattle.machine.proofs.build.Statement.{statement}
 use Rattle.machine.proofs.build.Tie as tie
@@ -32,7 +32,7 @@ build-search-requires c κs =
     let the-check = c.before.before.before.before.before.check in
     let the_told = c.before.before.before.told in
     let the-pre = c.before.before.before.before.before.before.before.before.requires in
-    (accepted-of (tree_of the-check.ensures the_told.given.1), the-pre)
+    (accepted_of (tree_of the-check.ensures the_told.given.1), the-pre)
 
 search-depth-requires : tie.Need-search-depth-requires
 search-depth-requires c κs = search rules
@@ -48,13 +48,13 @@ build-match-requires c κs =
     let the-check = c.before.before.before.before.before.check in
     let the_told = c.before.before.before.told in
     let the-pre = c.before.before.before.before.before.before.before.before.requires in
-    (accepted-of (tree_of the-check.ensures the_told.given.1), the-pre)
+    (accepted_of (tree_of the-check.ensures the_told.given.1), the-pre)
 
 returns : tie.Need-returns
 returns c =
     let the-check = c.before.before.before.check in
     let the_number = c.before.number in
-    (fault-of the-check.ensures the_number.given.1, refl)
+    (fault_of the-check.ensures the_number.given.1, refl)
 
 same_length : tie.Need-same-length
 same_length c = search rules
@@ -69,7 +69,7 @@ returns-2 c =
     let the-search-depth = c.search-depth in
     let the-check = c.before.before.before.before.before.before.before.before.before.check in
     let the_told = c.before.before.before.before.before.before.before.told in
-    builds-search the-args.pattern.now the-args.code.now the-build-search.new.1.0 (λ i. (the-shared-slice-known.given i).fits) the-pre the-args.searches the-if1.true the-search-depth.ensures (tree_of the-check.ensures the_told.given.1) the-build-search.ensures
+    builds_search the-args.pattern.now the-args.code.now the-build-search.new.1.0 (λ i. (the-shared-slice-known.given i).fits) the-pre the-args.searches the-if1.true the-search-depth.ensures (tree_of the-check.ensures the_told.given.1) the-build-search.ensures
 
 same-length-2 : tie.Need-same-length-2
 same-length-2 c = search rules
@@ -83,10 +83,10 @@ returns-3 c =
     let the-if1 = c.before.before.before.before.if1 in
     let the-check = c.before.before.before.before.before.before.before.before.check in
     let the_told = c.before.before.before.before.before.before.told in
-    builds-match the-args.pattern.now the-args.code.now the-build-match.new.1.0 (λ i. (the-shared-slice-known.given i).fits) the-pre the-args.searches the-if1.false (tree_of the-check.ensures the_told.given.1) the-build-match.ensures
+    builds_match the-args.pattern.now the-args.code.now the-build-match.new.1.0 (λ i. (the-shared-slice-known.given i).fits) the-pre the-args.searches the-if1.false (tree_of the-check.ensures the_told.given.1) the-build-match.ensures
 
-pub build-spec : {M : Type 1} → statement M
-build-spec =
+pub build_spec : {M : Type 1} → statement M
+build_spec =
     tie.close
     (tie.spec
     check-requires

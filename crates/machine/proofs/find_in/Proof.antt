@@ -39,7 +39,7 @@ same-length-4 c = search rules
 returns : tie.Need-returns
 returns c =
     let the-args = c.before.before.before.before.before.before.before.before.before.before.before.before.before.before.before.before.before.before.before.before.before.args in
-    let the-search-rows = c.before.before.before.before.before.before.before.before.search-rows in
+    let the-search-rows = c.before.before.before.before.before.before.before.before.search_rows in
     let the-if1 = c.before.before.before.before.before.before.before.before.before.before.before.before.before.if1 in
     subst (λ (b : Bool). FoundGives b the-args.pattern.now the-args.line.now the-search-rows.result.matched the-search-rows.result.steps the-search-rows.result.rows) (sym the-if1.true) the-search-rows.ensures
 
@@ -58,12 +58,12 @@ same-length-8 c = search rules
 returns-2 : tie.Need-returns-2
 returns-2 c =
     let the-args = c.before.before.before.before.before.before.before.before.before.before.before.before.before.before.before.before.before.before.before.before.before.args in
-    let the-match-rows = c.before.before.before.before.before.before.before.before.match-rows in
+    let the-match-rows = c.before.before.before.before.before.before.before.before.match_rows in
     let the-if1 = c.before.before.before.before.before.before.before.before.before.before.before.before.before.if1 in
     subst (λ (b : Bool). FoundGives b the-args.pattern.now the-args.line.now the-match-rows.result.matched the-match-rows.result.steps the-match-rows.result.rows) (sym the-if1.false) the-match-rows.ensures
 
-pub find-in-spec : {M : Type 1} → statement M
-find-in-spec =
+pub find_in_spec : {M : Type 1} → statement M
+find_in_spec =
     tie.close
     (tie.spec
     search-rows-requires

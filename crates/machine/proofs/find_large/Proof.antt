@@ -1,6 +1,6 @@
 -- The scratch is as long as the largest machine needs.
 use mathlib.Core.Path.{refl}
-use Rattle.machine.proofs.Wiring.{ready-scratch, ready-runs}
+use Rattle.machine.proofs.Wiring.{ready_scratch, ready_runs}
 use borrow.Author.Rules.{rules}
 use Rattle.machine.proofs.find_large.Statement.{statement}
 use Rattle.machine.proofs.find_large.Tie as tie
@@ -23,13 +23,13 @@ slice-aggregate-find-in-4 c = search rules
 find-in-requires : tie.Need-find-in-requires
 find-in-requires c κs =
     let the-pre = c.before.before.before.before.before.before.before.requires in
-    ready-runs the-pre.0 the-pre.1 (ready-scratch the-pre.0 refl refl refl refl)
+    ready_runs the-pre.0 the-pre.1 (ready_scratch the-pre.0 refl refl refl refl)
 
 returns : tie.Need-returns
 returns c = search rules
 
-pub find-large-spec : {M : Type 1} → statement M
-find-large-spec =
+pub find_large_spec : {M : Type 1} → statement M
+find_large_spec =
     tie.close
     (tie.spec
     slice-aggregate-find-in

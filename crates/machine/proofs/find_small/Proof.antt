@@ -1,6 +1,6 @@
 -- The scratch is as long as a small machine needs.
 use mathlib.Core.Path.{refl}
-use Rattle.machine.proofs.Wiring.{small-scratch, ready-runs}
+use Rattle.machine.proofs.Wiring.{small_scratch, ready_runs}
 use borrow.Author.Rules.{rules}
 use Rattle.machine.proofs.find_small.Statement.{statement}
 use Rattle.machine.proofs.find_small.Tie as tie
@@ -23,13 +23,13 @@ slice-aggregate-find-in-4 c = search rules
 find-in-requires : tie.Need-find-in-requires
 find-in-requires c κs =
     let the-pre = c.before.before.before.before.before.before.before.requires in
-    ready-runs the-pre.0 the-pre.1 (small-scratch the-pre.2 refl refl refl refl)
+    ready_runs the-pre.0 the-pre.1 (small_scratch the-pre.2 refl refl refl refl)
 
 returns : tie.Need-returns
 returns c = search rules
 
-pub find-small-spec : {M : Type 1} → statement M
-find-small-spec =
+pub find_small_spec : {M : Type 1} → statement M
+find_small_spec =
     tie.close
     (tie.spec
     slice-aggregate-find-in

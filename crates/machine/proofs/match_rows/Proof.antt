@@ -1,5 +1,5 @@
 -- The machine's rows with the whole line as row 0 are the whole match's; where it does not match, there is none.
-use Rattle.machine.proofs.Running.{match-gives}
+use Rattle.machine.proofs.Running.{match_gives}
 use borrow.Author.Rules.{rules}
 use Rattle.machine.proofs.match_rows.Statement.{statement}
 use Rattle.machine.proofs.match_rows.Tie as tie
@@ -41,10 +41,10 @@ returns c =
     let the-run-built = c.before.before.before.before.before.before.before.before.before.before.run-built in
     let the-pre = c.before.before.before.before.before.before.before.before.before.before.before.before.before.before.before.before.before.before.before.before.before.before.requires in
     let the-found = c.found in
-    λ e accepts. match-gives the-args.pattern.now the-args.code.now the-args.line.now the-args.places the-args.depth the-run-built.result.matched the-run-built.result.steps the-run-built.result.rows the-pre.ready the-run-built.ensures e accepts the-found.ensures
+    λ e accepts. match_gives the-args.pattern.now the-args.code.now the-args.line.now the-args.places the-args.depth the-run-built.result.matched the-run-built.result.steps the-run-built.result.rows the-pre.ready the-run-built.ensures e accepts the-found.ensures
 
-pub match-rows-spec : {M : Type 1} → statement M
-match-rows-spec =
+pub match_rows_spec : {M : Type 1} → statement M
+match_rows_spec =
     tie.close
     (tie.spec
     run-built-requires

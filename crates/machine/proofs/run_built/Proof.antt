@@ -2,8 +2,8 @@
 use Prim.Native.Nat.{◌+◌, ◌-◌, ◌*◌}
 use native.Mathlib.Omega.{arith}
 use lib.ListN.{length, take, drop}
-use Rattle.machine.proofs.Wiring.{ready-levels}
-use Rattle.machine.proofs.Running.{runs-safely, run-from}
+use Rattle.machine.proofs.Wiring.{ready_levels}
+use Rattle.machine.proofs.Running.{runs_safely, run_from}
 use borrow.Author.Rules.{rules}
 use Rattle.machine.proofs.run_built.Statement.{statement}
 use Rattle.machine.proofs.run_built.Tie as tie
@@ -14,7 +14,7 @@ use Rattle.run.proofs.run.Reads as run-reads
 add-cells : tie.Need-overflow-add-cells
 add-cells c =
     let the-pre = c.before.before.before.before.before.before.before.requires in
-    record { fits = omega (arith, ready-levels the-pre.1.ready) }
+    record { fits = omega (arith, ready_levels the-pre.1.ready) }
 
 mul-cells : tie.Need-overflow-mul-cells
 mul-cells c = search rules
@@ -45,7 +45,7 @@ run-requires c κs =
     let the-pre = c.before.before.before.before.before.before.before.before.before.before.before.requires in
     let the-run-arg = c.before.before.before.run-arg in
     let the-run-arg2 = c.before.before.run-arg2 in
-    runs-safely the-pre.1.ready (omega (arith, the-run-arg.given)) (omega (arith, the-run-arg2.given)) the-pre.1.scratch.lists-long the-pre.1.scratch.pending-long the-pre.1.short the-pre.1.starts
+    runs_safely the-pre.1.ready (omega (arith, the-run-arg.given)) (omega (arith, the-run-arg2.given)) the-pre.1.scratch.lists_long the-pre.1.scratch.pending_long the-pre.1.short the-pre.1.starts
 
 same_length : tie.Need-same-length
 same_length c = search rules
@@ -65,10 +65,10 @@ returns c =
     let the-run = c.before.before.before.before.before.before.before.before.run in
     let the-pre = c.before.before.before.before.before.before.before.before.before.before.before.before.before.before.before.before.before.before.before.before.requires in
     let the-run-arg = c.before.before.before.before.before.before.before.before.before.before.before.before.run-arg in
-    λ searches m. run-from m the-args.line.now the-args.from (length (take (the-args.places * (the-args.depth + 1) - 0) (drop 0 the-args.seen.now))) the-run.result.matched the-run.result.steps the-run.result.rows the-pre.1.short the-pre.1.starts (omega (arith, the-run-arg.given)) the-run.ensures
+    λ searches m. run_from m the-args.line.now the-args.from (length (take (the-args.places * (the-args.depth + 1) - 0) (drop 0 the-args.seen.now))) the-run.result.matched the-run.result.steps the-run.result.rows the-pre.1.short the-pre.1.starts (omega (arith, the-run-arg.given)) the-run.ensures
 
-pub run-built-spec : {M : Type 1} → statement M
-run-built-spec =
+pub run_built_spec : {M : Type 1} → statement M
+run_built_spec =
     tie.close
     (tie.spec
     add-cells

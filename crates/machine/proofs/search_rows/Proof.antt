@@ -1,5 +1,5 @@
 -- The machine's rows are those of the search of the rest, moved; where it does not match, there is none.
-use Rattle.machine.proofs.Running.{search-gives}
+use Rattle.machine.proofs.Running.{search_gives}
 use borrow.Author.Rules.{rules}
 use Rattle.machine.proofs.search_rows.Statement.{statement}
 use Rattle.machine.proofs.search_rows.Tie as tie
@@ -32,10 +32,10 @@ returns c =
     let the-run-built = c.before.before.before.before.before.before.before.before.before.before.run-built in
     let the-pre = c.before.before.before.before.before.before.before.before.before.before.before.before.before.before.before.before.before.before.before.before.before.before.requires in
     let the-found = c.found in
-    λ e accepts. search-gives the-args.pattern.now the-args.code.now the-args.line.now the-args.places the-args.depth the-run-built.result.matched the-run-built.result.steps the-run-built.result.rows the-args.from the-pre.ready the-run-built.ensures e accepts the-found.ensures
+    λ e accepts. search_gives the-args.pattern.now the-args.code.now the-args.line.now the-args.places the-args.depth the-run-built.result.matched the-run-built.result.steps the-run-built.result.rows the-args.from the-pre.ready the-run-built.ensures e accepts the-found.ensures
 
-pub search-rows-spec : {M : Type 1} → statement M
-search-rows-spec =
+pub search_rows_spec : {M : Type 1} → statement M
+search_rows_spec =
     tie.close
     (tie.spec
     run-built-requires

@@ -8,17 +8,17 @@ use native.Mathlib.Nat.{zero-add}
 use native.Mathlib.Omega.{arith}
 use lib.ListN.{length, get_or, set, drop, length-set}
 use lib.Seq.{paste, paste-zero, paste-suc, take_all}
-use Rattle.paper.specs.Limits.{tableNumbers}
+use Rattle.paper.specs.Limits.{table_numbers}
 use Rattle.matcher.proofs.fill.Statement.{statement}
 use Rattle.matcher.proofs.fill.Tie as tie
 use Rattle.matcher.proofs.fill.Reads as reads
 use Rattle.matcher.proofs.fill.Lts as lts
 
 abbrev invariant-loop : tie.invariant-loop
-invariant-loop table₀ rows j₀ table j = (j ≤ tableNumbers) × (length table ≡ length table₀) × (table ≡ paste table₀ 0 rows j)
+invariant-loop table₀ rows j₀ table j = (j ≤ table_numbers) × (length table ≡ length table₀) × (table ≡ paste table₀ 0 rows j)
 
 abbrev decreases-loop : tie.decreases-loop
-decreases-loop table₀ rows j₀ table j = tableNumbers - j
+decreases-loop table₀ rows j₀ table j = table_numbers - j
 
 loop-holds : tie.Need-loop-init invariant-loop decreases-loop
 loop-holds c = (search rules, search rules, paste-zero c.args.table.now 0 c.args.t2)
@@ -45,7 +45,7 @@ loop-again : tie.Need-loop-preserved invariant-loop decreases-loop
 loop-again c =
     let args = c.before.before.args in
     let loop = c.before.loop in
-    let long : length args.t2 ≡ tableNumbers = search rules in
+    let long : length args.t2 ≡ table_numbers = search rules in
     let inside : 0 + loop.j < length args.table.now = omega (arith, c.before.before.requires) in
     let below : loop.j < length args.t2 = omega (arith, c.loop-test.true) in (
       search rules,
@@ -63,9 +63,9 @@ returns : tie.Need-returns invariant-loop decreases-loop
 returns c =
     let args = c.before.before.args in
     let loop = c.before.loop in
-    let long : length args.t2 ≡ tableNumbers = search rules in
-    let all : loop.j ≡ tableNumbers = omega (arith, loop.invariant.0) in
-    loop.invariant.2 ∙ (ap (paste args.table.now 0 args.t2) all ∙ ap (λ (rows : List ℕ). rows ++ drop tableNumbers args.table.now) (take_all tableNumbers args.t2 (omega arith)))
+    let long : length args.t2 ≡ table_numbers = search rules in
+    let all : loop.j ≡ table_numbers = omega (arith, loop.invariant.0) in
+    loop.invariant.2 ∙ (ap (paste args.table.now 0 args.t2) all ∙ ap (λ (rows : List ℕ). rows ++ drop table_numbers args.table.now) (take_all table_numbers args.t2 (omega arith)))
 
 pub fill_spec : {M : Type 1} → statement M
 fill_spec =

@@ -1,5 +1,5 @@
 -- Each way out is one of the call's: 11, 12, or what was found, told and written.
-use Rattle.matcher.proofs.Answering.{refuses-line, refuses-table, answers}
+use Rattle.matcher.proofs.Answering.{refuses_line, refuses_table, answers}
 use borrow.Author.Rules.{rules}
 use Rattle.matcher.proofs.finish.Statement.{statement}
 use Rattle.matcher.proofs.finish.Tie as tie
@@ -14,7 +14,7 @@ returns c =
     let the-args = c.before.before.before.before.before.args in
     let the-pre = c.before.before.before.before.before.requires in
     let the-if1 = c.if1 in
-    refuses-line the-args.searches the-args.pattern.now the-args.line.now the-args.table.now the-pre.tree the-pre.found the-if1.true
+    refuses_line the-args.searches the-args.pattern.now the-args.line.now the-args.table.now the-pre.tree the-pre.found the-if1.true
 
 returns-2 : tie.Need-returns-2
 returns-2 c =
@@ -22,7 +22,7 @@ returns-2 c =
     let the-pre = c.before.before.before.before.before.before.requires in
     let the-if1 = c.before.if1 in
     let the-if2 = c.if2 in
-    refuses-table the-args.searches the-args.pattern.now the-args.line.now the-args.table.now the-pre.tree the-pre.found the-if1.false the-if2.true
+    refuses_table the-args.searches the-args.pattern.now the-args.line.now the-args.table.now the-pre.tree the-pre.found the-if1.false the-if2.true
 
 find-requires : tie.Need-find-requires
 find-requires c κs = search rules

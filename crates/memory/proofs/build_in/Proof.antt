@@ -1,8 +1,8 @@
 -- The refusals of building, or its table with the head before it.
 use native.Mathlib.Omega.{arith}
 use lib.ListN.{length-set}
-use Rattle.machine.proofs.Wiring.{ready-places, ready-levels}
-use Rattle.memory.proofs.Keeping.{refused-in, ready-below, built_in}
+use Rattle.machine.proofs.Wiring.{ready_places, ready_levels}
+use Rattle.memory.proofs.Keeping.{refused_in, ready_below, built_in}
 use borrow.Author.Rules.{rules}
 use Rattle.memory.proofs.build_in.Statement.{statement}
 use Rattle.memory.proofs.build_in.Tie as tie
@@ -34,7 +34,7 @@ cast-machine c =
     let the-build = c.before.before.before.before.before.build in
     let the-pre = c.before.before.before.before.before.before.before.before.before.requires in
     let the_places = c.before.places in
-    omega (arith, (ready-places (ready-below the-args.pattern.now the-args.searches the-args.machine.now the-build.new.1.1.0 (the-pre) the-build.ensures the_places.given.1)).1)
+    omega (arith, (ready_places (ready_below the-args.pattern.now the-args.searches the-args.machine.now the-build.new.1.1.0 (the-pre) the-build.ensures the_places.given.1)).1)
 
 slice-write-machine : tie.Need-slice-write-machine
 slice-write-machine c = search rules
@@ -45,7 +45,7 @@ cast-machine-2 c =
     let the-build = c.before.before.before.before.before.build in
     let the-pre = c.before.before.before.before.before.before.before.before.before.requires in
     let the_places = c.before.places in
-    omega (arith, ready-levels (ready-below the-args.pattern.now the-args.searches the-args.machine.now the-build.new.1.1.0 (the-pre) the-build.ensures the_places.given.1))
+    omega (arith, ready_levels (ready_below the-args.pattern.now the-args.searches the-args.machine.now the-build.new.1.1.0 (the-pre) the-build.ensures the_places.given.1))
 
 slice-write-machine-2 : tie.Need-slice-write-machine-2
 slice-write-machine-2 c =
@@ -69,7 +69,7 @@ returns c =
     let the-build = c.before.before.before.before.before.build in
     let the-pre = c.before.before.before.before.before.before.before.before.before.requires in
     let the_number = c.before.number in
-    refused-in the-args.pattern.now the-args.searches the-args.machine.now the-build.new.1.1.0 (the-pre) the-build.ensures the_number.given.1
+    refused_in the-args.pattern.now the-args.searches the-args.machine.now the-build.new.1.1.0 (the-pre) the-build.ensures the_number.given.1
 
 same-length-2 : tie.Need-same-length-2
 same-length-2 c = search rules
@@ -82,8 +82,8 @@ returns-2 c =
     let the_places = c.before.places in
     built_in the-args.pattern.now the-args.searches the-args.machine.now the-build.new.1.1.0 (the-pre) the-build.ensures the_places.given.1
 
-pub build-in-spec : {M : Type 1} → statement M
-build-in-spec =
+pub build_in_spec : {M : Type 1} → statement M
+build_in_spec =
     tie.close
     (tie.spec
     sub-build

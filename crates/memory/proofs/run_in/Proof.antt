@@ -1,9 +1,9 @@
 -- Each way out is one of the call's: 11, 12, which come before anything is touched, or what was found, told and written.
 use mathlib.Core.Path.{refl}
 use native.Mathlib.Omega.{arith}
-use Rattle.matcher.proofs.Answering.{refuses-line, refuses-table, answers, not-refused}
-use Rattle.memory.specs.Memory.{searchesIn}
-use Rattle.memory.proofs.Keeping.{ready-behind, ready-in}
+use Rattle.matcher.proofs.Answering.{refuses_line, refuses_table, answers, not_refused}
+use Rattle.memory.specs.Memory.{searches_in}
+use Rattle.memory.proofs.Keeping.{ready_behind, ready_in}
 use borrow.Author.Rules.{rules}
 use Rattle.memory.proofs.run_in.Statement.{statement}
 use Rattle.memory.proofs.run_in.Tie as tie
@@ -19,7 +19,7 @@ returns c =
     let the-pre = c.before.before.before.before.before.before.before.before.before.requires in
     let the-if1 = c.if1 in
     record {
-      answers = refuses-line (searchesIn the-args.machine.now) the-args.pattern.now the-args.line.now the-args.table.now the-pre.1.tree the-pre.1.found the-if1.true;
+      answers = refuses_line (searches_in the-args.machine.now) the-args.pattern.now the-args.line.now the-args.table.now the-pre.1.tree the-pre.1.found the-if1.true;
       kept = λ number place is. refl;
     }
 
@@ -30,7 +30,7 @@ returns-2 c =
     let the-if1 = c.before.if1 in
     let the-if2 = c.if2 in
     record {
-      answers = refuses-table (searchesIn the-args.machine.now) the-args.pattern.now the-args.line.now the-args.table.now the-pre.1.tree the-pre.1.found the-if1.false the-if2.true;
+      answers = refuses_table (searches_in the-args.machine.now) the-args.pattern.now the-args.line.now the-args.table.now the-pre.1.tree the-pre.1.found the-if1.false the-if2.true;
       kept = λ number place is. refl;
     }
 
@@ -67,7 +67,7 @@ find-in-requires c κs =
     let the-args = c.before.before.before.before.before.before.before.before.before.before.before.before.before.before.before.before.before.before.args in
     let the-pre = c.before.before.before.before.before.before.before.before.before.before.before.before.before.before.before.before.before.before.requires in
     let the-if1 = c.before.before.before.before.before.before.before.before.before.if1 in
-    ready-in the-args.seen.now the-args.taken.now the-args.lists.now the-args.pending.now (ready-behind the-args.machine.now the-pre.1) the-if1.false the-pre.2
+    ready_in the-args.seen.now the-args.taken.now the-args.lists.now the-args.pending.now (ready_behind the-args.machine.now the-pre.1) the-if1.false the-pre.2
 
 fill-requires : tie.Need-fill-requires
 fill-requires c κs = search rules
@@ -100,13 +100,13 @@ returns-3 c =
     let the_told = c.told in
     let the-fill = c.before.before.before.fill in
     record {
-      answers = answers (searchesIn the-args.machine.now) the-args.pattern.now the-args.line.now the-args.table.now the-pre.1.tree the-pre.1.found the-pre.1.lawful the-if1.false the-if2.false the-find-in.result.rows the-find-in.ensures the_told.ensures the-fill.ensures;
+      answers = answers (searches_in the-args.machine.now) the-args.pattern.now the-args.line.now the-args.table.now the-pre.1.tree the-pre.1.found the-pre.1.lawful the-if1.false the-if2.false the-find-in.result.rows the-find-in.ensures the_told.ensures the-fill.ensures;
       kept = λ number place is.
-          absurd (not-refused (searchesIn the-args.machine.now) the-args.pattern.now the-args.line.now the-args.table.now the-pre.1.tree the-pre.1.found the-pre.1.lawful the-if1.false the-if2.false the-find-in.result.rows the-find-in.ensures the_told.ensures number place is);
+          absurd (not_refused (searches_in the-args.machine.now) the-args.pattern.now the-args.line.now the-args.table.now the-pre.1.tree the-pre.1.found the-pre.1.lawful the-if1.false the-if2.false the-find-in.result.rows the-find-in.ensures the_told.ensures number place is);
     }
 
-pub run-in-spec : {M : Type 1} → statement M
-run-in-spec =
+pub run_in_spec : {M : Type 1} → statement M
+run_in_spec =
     tie.close
     (tie.spec
     returns

@@ -18,5 +18,5 @@ returns-2 c =
     let the-args = c.before.args in
     sym (ap (λ (b : Bool). b && leb the-args.byte the-args.high) (lt-leb the-args.low the-args.byte c.if1.false))
 
-pub in-range-spec : {M : Type 1} → statement M
-in-range-spec = tie.close (tie.spec returns returns-2)
+pub in_range_spec : {M : Type 1} → statement M
+in_range_spec = tie.close (tie.spec returns returns-2)

@@ -4,7 +4,7 @@ use Prim.Native.Nat.{◌+◌, ◌*◌, ◌≤◌}
 use mathlib.Core.Path.{◌≡◌, sym, ◌∙◌}
 use mathlib.Core.Logic.{⊎_elim}
 use lib.ListN.{length}
-use Rattle.moves.proofs.Ranges.{held, held_none, held-here, held_below, held-above}
+use Rattle.moves.proofs.Ranges.{held, held_none, held_here, held_below, held_above}
 use Rattle.moves.proofs.in_set.Statement.{statement}
 use Rattle.moves.proofs.in_set.Tie as tie
 use Rattle.moves.proofs.in_set.Reads as reads
@@ -35,7 +35,7 @@ returns c =
     let the-loop-test = c.before.before.before.before.loop-test in
     let the-if1 = c.before.before.if1 in
     let the-if2 = c.if2 in
-    sym (held-here the-args.pattern.now the-loop.p the-loop.many the-args.byte the-loop-test.true the-loop.invariant.0 the-if1.true the-if2.true)
+    sym (held_here the-args.pattern.now the-loop.p the-loop.many the-args.byte the-loop-test.true the-loop.invariant.0 the-if1.true the-if2.true)
     ∙ the-loop.invariant.1
 
 add-p : tie.Need-overflow-add-p invariant-loop decreases-loop
@@ -55,7 +55,7 @@ loop-again c =
     ⊎_elim
     (λ w. (
       search rules,
-      sym (held-above the-args.pattern.now the-loop.p the-loop.many the-args.byte the-loop-test.true the-loop.invariant.0 w.2.left) ∙ the-loop.invariant.1,
+      sym (held_above the-args.pattern.now the-loop.p the-loop.many the-args.byte the-loop-test.true the-loop.invariant.0 w.2.left) ∙ the-loop.invariant.1,
     ))
     (λ w. (
       search rules,
@@ -70,8 +70,8 @@ returns-2 c =
     let the-loop-test = c.loop-test in
     sym (held_none the-args.pattern.now the-loop.p the-loop.many the-args.byte the-loop-test.false) ∙ the-loop.invariant.1
 
-pub in-set-spec : {M : Type 1} → statement M
-in-set-spec =
+pub in_set_spec : {M : Type 1} → statement M
+in_set_spec =
     tie.close
     (tie.spec
     invariant-loop

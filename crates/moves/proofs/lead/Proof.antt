@@ -1,5 +1,5 @@
 -- Each kind does to level and rows what its move in the definition does.
-use Rattle.moves.proofs.PlaceKinds.{leads-open, leads-close, leads-begin, leads-begin-optional, leads-end, begin-slots}
+use Rattle.moves.proofs.PlaceKinds.{leads_open, leads_close, leads_begin, leads_begin_optional, leads_end, begin_slots}
 use native.Mathlib.Omega.{arith}
 use borrow.Author.Rules.{rules}
 use Rattle.moves.proofs.lead.Statement.{statement}
@@ -30,7 +30,7 @@ returns : tie.Need-returns
 returns c =
     let the-args = c.before.args in
     let the-if1 = c.if1 in
-    leads-open the-args.kind the-args.a the-args.n the-args.at the-args.places the-args.floor the-args.rows.now the-if1.true
+    leads_open the-args.kind the-args.a the-args.n the-args.at the-args.places the-args.floor the-args.rows.now the-if1.true
 
 mul-rows-3 : tie.Need-overflow-mul-rows-3
 mul-rows-3 c =
@@ -60,14 +60,14 @@ returns-2 : tie.Need-returns-2
 returns-2 c =
     let the-args = c.before.before.args in
     let the-if2 = c.if2 in
-    leads-close the-args.kind the-args.a the-args.n the-args.at the-args.places the-args.floor the-args.rows.now the-if2.true
+    leads_close the-args.kind the-args.a the-args.n the-args.at the-args.places the-args.floor the-args.rows.now the-if2.true
 
 returns-3 : tie.Need-returns-3
 returns-3 c =
     let the-args = c.before.before.before.args in
     let the-pre = c.before.before.before.requires in
     let the-if3 = c.if3 in
-    leads-end the-args.kind the-args.a the-args.n the-args.at the-args.places the-args.floor the-args.rows.now the-pre.3 the-if3.true
+    leads_end the-args.kind the-args.a the-args.n the-args.at the-args.places the-args.floor the-args.rows.now the-pre.3 the-if3.true
 
 clear-rows-requires : tie.Need-clear-rows-requires
 clear-rows-requires c κs =
@@ -76,7 +76,7 @@ clear-rows-requires c κs =
     let the-if1 = c.before.before.before.if1 in
     let the-if2 = c.before.before.if2 in
     let the-if3 = c.before.if3 in
-    begin-slots the-args.kind the-args.a the-args.n the-pre.0 the-pre.1 the-if1.false the-if2.false the-if3.false the-pre.4
+    begin_slots the-args.kind the-args.a the-args.n the-pre.0 the-pre.1 the-if1.false the-if2.false the-if3.false the-pre.4
 
 add-t21 : tie.Need-overflow-add-t21
 add-t21 c = search rules
@@ -86,18 +86,18 @@ returns-4 c =
     let the-args = c.before.before.before.before.before.before.args in
     let the-clear-rows = c.before.clear-rows in
     let the-if4 = c.if4 in
-    leads-begin-optional the-args.kind the-args.a the-args.n the-args.at the-args.places the-args.floor the-args.rows.now
+    leads_begin_optional the-args.kind the-args.a the-args.n the-args.at the-args.places the-args.floor the-args.rows.now
     the-clear-rows.new.0 the-clear-rows.ensures the-if4.true
 
 returns-5 : tie.Need-returns-5
 returns-5 c =
     let the-args = c.before.before.before.before.before.before.args in
     let the-clear-rows = c.before.clear-rows in
-    leads-begin the-args.kind the-args.a the-args.n the-args.at the-args.places the-args.floor the-args.rows.now
+    leads_begin the-args.kind the-args.a the-args.n the-args.at the-args.places the-args.floor the-args.rows.now
     the-clear-rows.new.0 the-clear-rows.ensures (omega arith)
 
-pub lead-spec : {M : Type 1} → statement M
-lead-spec =
+pub lead_spec : {M : Type 1} → statement M
+lead_spec =
     tie.close
     (tie.spec
     mul-rows

@@ -2,7 +2,7 @@
 use Prim.Native.Nat.{◌<◌}
 use mathlib.Core.Path.{◌≡◌}
 use lib.ListN.{length}
-use Rattle.moves.proofs.Ending.{settle-room, settles-eat, settles-win, settles-early, settles-die}
+use Rattle.moves.proofs.Ending.{settle_room, settles_eat, settles_win, settles_early, settles_die}
 use native.Mathlib.Omega.{arith}
 use borrow.Author.Rules.{rules}
 use Rattle.moves.proofs.settle.Statement.{statement}
@@ -26,7 +26,7 @@ carry-requires c κs =
     let the-eats = c.before.before.before.eats in
     let the-if1 = c.before.before.if1 in
     let inside : the-args.here.next < length the-args.taken.now = the-pre.inside (the-eats.ensures.leads the-if1.true) in
-    (inside, omega (arith, inside, the-pre.few), settle-room the-pre)
+    (inside, omega (arith, inside, the-pre.few), settle_room the-pre)
 
 mul-store : tie.Need-overflow-mul-store
 mul-store c = search rules
@@ -34,7 +34,7 @@ mul-store c = search rules
 store-requires : tie.Need-store-requires
 store-requires c κs =
     let the-pre = c.before.before.before.before.before.before.before.before.requires in
-    settle-room the-pre
+    settle_room the-pre
 
 same_length : tie.Need-same-length
 same_length c = search rules
@@ -51,7 +51,7 @@ returns c =
     let the-carry = c.before.before.before.before.carry in
     let owned = c.before.before.before.before.before.before.before.before.before.before.before.before.well-formed.1.1.1.1.1.1.0 in
     let long : length the-args.groups ≡ 20 = search rules in
-    settles-eat the-pre the-args.ahead.there the-args.ahead.byte the-args.groups the-eats.result the-eats.ensures the-if1.true
+    settles_eat the-pre the-args.ahead.there the-args.ahead.byte the-args.groups the-eats.result the-eats.ensures the-if1.true
     the-carry.new.0 the-carry.new.1.0 the-carry.result long the-carry.ensures
 
 returns-2 : tie.Need-returns-2
@@ -60,7 +60,7 @@ returns-2 c =
     let the-args = c.before.before.before.before.before.before.before.args in
     let the-if2 = c.before.if2 in
     let the-if3 = c.if3 in
-    settles-early the-pre the-args.ahead.there the-args.ahead.byte the-args.groups the-if2.true the-if3.true
+    settles_early the-pre the-args.ahead.there the-args.ahead.byte the-args.groups the-if2.true the-if3.true
 
 same-length-3 : tie.Need-same-length-3
 same-length-3 c = search rules
@@ -73,7 +73,7 @@ returns-3 c =
     let the-if2 = c.before.before.before.before.before.if2 in
     let the-if3 = c.before.before.before.before.if3 in
     let long : length the-args.groups ≡ 20 = search rules in
-    settles-win the-pre the-args.ahead.there the-args.ahead.byte the-args.groups the-store.new.0 long the-if2.true the-if3.false the-store.ensures
+    settles_win the-pre the-args.ahead.there the-args.ahead.byte the-args.groups the-store.new.0 long the-if2.true the-if3.false the-store.ensures
 
 returns-4 : tie.Need-returns-4
 returns-4 c =
@@ -82,10 +82,10 @@ returns-4 c =
     let the-if2 = c.if2 in
     let the-eats = c.before.before.eats in
     let the-if1 = c.before.if1 in
-    settles-die the-pre the-args.ahead.there the-args.ahead.byte the-args.groups the-if2.false the-eats.result the-eats.ensures the-if1.false
+    settles_die the-pre the-args.ahead.there the-args.ahead.byte the-args.groups the-if2.false the-eats.result the-eats.ensures the-if1.false
 
-pub settle-spec : {M : Type 1} → statement M
-settle-spec =
+pub settle_spec : {M : Type 1} → statement M
+settle_spec =
     tie.close
     (tie.spec
     eats-requires

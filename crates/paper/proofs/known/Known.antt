@@ -6,11 +6,11 @@ use mathlib.Core.List.{List, [], ◌∷◌, ◌++◌, map}
 use mathlib.Core.Option.{Option, none, some}
 use lib.ListN.{length, replicate}
 use Rattle.paper.specs.Refusal.{Checked, refused, accepted, ◌>>=◌}
-use Rattle.paper.specs.Check.{Numbers, patternOf, check}
+use Rattle.paper.specs.Check.{Numbers, pattern_of, check}
 use Rattle.paper.specs.Machine.{machine, rows_of}
-use Rattle.paper.specs.Match.{Found, withRow0, matchCall, tableAfter}
-use Rattle.paper.specs.Replace.{Replaced, replaceCall, replaceAnswer, bufferAfter}
-use Rattle.paper.specs.PieceCalls.{pieceCall}
+use Rattle.paper.specs.Match.{Found, with_row0, match_call, table_after}
+use Rattle.paper.specs.Replace.{Replaced, replace_call, replace_answer, buffer_after}
+use Rattle.paper.specs.PieceCalls.{piece_call}
 
 -- what follows where f and g are the same at each of some cases, one case after the other
 abbrev pub Given : {A B : Type 0} → (A → B) → (A → B) → List A → Type 0 → Type 0
@@ -29,7 +29,7 @@ same f g cs = together f g cs (map f cs ≡ map g cs) (λ claim. claim)
 -- the rows by the list machine; and the lent table afterwards
 pub record Seen : Type 0 where
   pub answer : Checked Found
-  pub byMachine : Checked (Option (List ℕ))
+  pub by_machine : Checked (Option (List ℕ))
   pub after : List ℕ
 
 -- a pattern, a line and a lent table, with what is known of them
@@ -44,11 +44,11 @@ asked pattern line table known = record { pattern = pattern; line = line; table 
 
 abbrev pub seen : Case → Seen
 seen c =
-    let answer = matchCall c.pattern c.line c.table in
+    let answer = match_call c.pattern c.line c.table in
     record {
       answer = answer;
-      byMachine = patternOf c.pattern >>= λ e. accepted (withRow0 (length c.line) (rows_of (machine e 1 c.line)));
-      after = tableAfter answer c.table;
+      by_machine = pattern_of c.pattern >>= λ e. accepted (with_row0 (length c.line) (rows_of (machine e 1 c.line)));
+      after = table_after answer c.table;
     }
 
 abbrev pub told : Case → Seen
@@ -68,7 +68,7 @@ abbrev both : Option (List ℕ) → ℕ → List ℕ → Seen
 both rows steps after =
     record {
       answer = accepted (record { rows = rows; steps = steps });
-      byMachine = accepted rows;
+      by_machine = accepted rows;
       after = after;
     }
 
@@ -110,8 +110,8 @@ starred =
     ∷ []
 
 -- the definitions give 01's starred answers
-pub starred-known : map seen starred ≡ map told starred
-starred-known = same seen told starred refl refl refl refl refl refl refl refl refl refl refl refl
+pub starred_known : map seen starred ≡ map told starred
+starred_known = same seen told starred refl refl refl refl refl refl refl refl refl refl refl refl
 
 -- examples beside them
 abbrev pub beside : List Case
@@ -133,11 +133,11 @@ beside =
     ∷ []
 
 -- and these
-pub beside-known : map seen beside ≡ map told beside
-beside-known = same seen told beside refl refl refl refl refl refl refl
+pub beside_known : map seen beside ≡ map told beside
+beside_known = same seen told beside refl refl refl refl refl refl refl
 
 -- 01's limit examples: a{249}a has 500 places; a{250} has one too many; a{255}{255}{0,0} has one, however many stand inside
-pub limits-known : map check
+pub limits_known : map check
     ((22 ∷ 0 ∷ 4 ∷ 0 ∷ 12 ∷ 0 ∷ 6 ∷ 0 ∷ 249 ∷ 0 ∷ 249 ∷ 0 ∷ 0 ∷ 0 ∷ 2 ∷ 0 ∷ 2 ∷ 0 ∷ 97 ∷ 97 ∷ 2 ∷ 0 ∷ 2 ∷ 0 ∷ 97 ∷ 97 ∷ [])
     ∷ (12 ∷ 0 ∷ 6 ∷ 0 ∷ 250 ∷ 0 ∷ 250 ∷ 0 ∷ 0 ∷ 0 ∷ 2 ∷ 0 ∷ 2 ∷ 0 ∷ 97 ∷ 97 ∷ [])
     ∷ (32 ∷ 0 ∷ 6 ∷ 0 ∷ 0 ∷ 0 ∷ 0 ∷ 0 ∷ 0 ∷ 0 ∷ 22 ∷ 0 ∷ 6 ∷ 0 ∷ 255 ∷ 0 ∷ 255 ∷ 0 ∷ 0 ∷ 0 ∷ 12 ∷ 0 ∷ 6 ∷ 0 ∷ 255 ∷ 0 ∷ 255 ∷ 0 ∷ 0 ∷ 0 ∷ 2 ∷ 0 ∷ 2 ∷ 0 ∷ 97 ∷ 97 ∷ [])
@@ -146,10 +146,10 @@ pub limits-known : map check
     ∷ refused 8 0
     ∷ accepted (record { places = 1; depth = 0; groups = 0 })
     ∷ []
-limits-known = refl
+limits_known = refl
 
 -- the depth of an alternation is the greatest of its members', and their repeats' own: a|b, a*|b, a|b|(a*)*
-pub depths-known : map check
+pub depths_known : map check
     ((12 ∷ 0 ∷ 5 ∷ 0 ∷ 2 ∷ 0 ∷ 2 ∷ 0 ∷ 97 ∷ 97 ∷ 2 ∷ 0 ∷ 2 ∷ 0 ∷ 98 ∷ 98 ∷ [])
     ∷ (22 ∷ 0 ∷ 5 ∷ 0 ∷ 12 ∷ 0 ∷ 6 ∷ 0 ∷ 0 ∷ 0 ∷ 255 ∷ 255 ∷ 0 ∷ 0 ∷ 2 ∷ 0 ∷ 2 ∷ 0 ∷ 97 ∷ 97 ∷ 2 ∷ 0 ∷ 2 ∷ 0 ∷ 98 ∷ 98 ∷ [])
     ∷ (42 ∷ 0 ∷ 5 ∷ 0 ∷ 2 ∷ 0 ∷ 2 ∷ 0 ∷ 97 ∷ 97 ∷ 2 ∷ 0 ∷ 2 ∷ 0 ∷ 98 ∷ 98 ∷ 26 ∷ 0 ∷ 6 ∷ 0 ∷ 0 ∷ 0 ∷ 255 ∷ 255 ∷ 0 ∷ 0 ∷ 16 ∷ 0 ∷ 3 ∷ 0 ∷ 12 ∷ 0 ∷ 6 ∷ 0 ∷ 0 ∷ 0 ∷ 255 ∷ 255 ∷ 0 ∷ 0 ∷ 2 ∷ 0 ∷ 2 ∷ 0 ∷ 97 ∷ 97 ∷ [])
@@ -158,22 +158,22 @@ pub depths-known : map check
     ∷ accepted (record { places = 7; depth = 1; groups = 0 })
     ∷ accepted (record { places = 14; depth = 2; groups = 1 })
     ∷ []
-depths-known = refl
+depths_known = refl
 
 -- a table with this row 1
 abbrev pub row1 : ℕ → ℕ → List ℕ
 row1 start end = 7 ∷ 7 ∷ start ∷ end ∷ replicate 16 7
 
 -- the pattern b*
-abbrev pub manyB : List ℕ
-manyB = 12 ∷ 0 ∷ 6 ∷ 0 ∷ 0 ∷ 0 ∷ 255 ∷ 255 ∷ 0 ∷ 0 ∷ 2 ∷ 0 ∷ 2 ∷ 0 ∷ 98 ∷ 98 ∷ []
+abbrev pub many_b : List ℕ
+many_b = 12 ∷ 0 ∷ 6 ∷ 0 ∷ 0 ∷ 0 ∷ 255 ∷ 255 ∷ 0 ∷ 0 ∷ 2 ∷ 0 ∷ 2 ∷ 0 ∷ 98 ∷ 98 ∷ []
 
 -- the templates "-" and "->$1", and the line "abc"
 abbrev pub dash : List ℕ
 dash = 1 ∷ 0 ∷ 32 ∷ 0 ∷ 45 ∷ []
 
-abbrev pub arrowAndRow1 : List ℕ
-arrowAndRow1 = 2 ∷ 0 ∷ 32 ∷ 0 ∷ 45 ∷ 62 ∷ 2 ∷ 0 ∷ 33 ∷ 0 ∷ 1 ∷ 0 ∷ []
+abbrev pub arrow_and_row1 : List ℕ
+arrow_and_row1 = 2 ∷ 0 ∷ 32 ∷ 0 ∷ 45 ∷ 62 ∷ 2 ∷ 0 ∷ 33 ∷ 0 ∷ 1 ∷ 0 ∷ []
 
 abbrev pub abc : List ℕ
 abc = 97 ∷ 98 ∷ 99 ∷ []
@@ -184,15 +184,15 @@ pub record Written : Type 0 where
   pub after : List ℕ
 
 abbrev pub dashed : List ℕ → Written
-dashed buffer = let a = replaceCall manyB dash abc buffer in record { answer = replaceAnswer a; after = bufferAfter a buffer }
+dashed buffer = let a = replace_call many_b dash abc buffer in record { answer = replace_answer a; after = buffer_after a buffer }
 
 -- 01's case 15, into a buffer as long as the output and into a longer one: "-a-c-", with the bytes behind it as they were. The empty match behind "b" is not replaced
-pub case-15-known : map dashed (replicate 5 7 ∷ replicate 7 7 ∷ [])
-    ≡ record { answer = accepted (record { outputLength = 5; replaced = 3; steps = 105 }); after = 45 ∷ 97 ∷ 45 ∷ 99 ∷ 45 ∷ [] }
-    ∷ record { answer = accepted (record { outputLength = 5; replaced = 3; steps = 105 }); after = 45 ∷ 97 ∷ 45 ∷ 99 ∷ 45 ∷ 7 ∷ 7 ∷ [] }
+pub case_15_known : map dashed (replicate 5 7 ∷ replicate 7 7 ∷ [])
+    ≡ record { answer = accepted (record { output_length = 5; replaced = 3; steps = 105 }); after = 45 ∷ 97 ∷ 45 ∷ 99 ∷ 45 ∷ [] }
+    ∷ record { answer = accepted (record { output_length = 5; replaced = 3; steps = 105 }); after = 45 ∷ 97 ∷ 45 ∷ 99 ∷ 45 ∷ 7 ∷ 7 ∷ [] }
     ∷ []
-case-15-known = refl
+case_15_known = refl
 
 -- a row of which one number alone is 65,535 is not absent
-pub half-absent-known : map (λ (table : List ℕ). pieceCall arrowAndRow1 abc table 1) (row1 1 65535 ∷ row1 65535 1 ∷ []) ≡ refused 15 0 ∷ refused 15 0 ∷ []
-half-absent-known = refl
+pub half_absent_known : map (λ (table : List ℕ). piece_call arrow_and_row1 abc table 1) (row1 1 65535 ∷ row1 65535 1 ∷ []) ≡ refused 15 0 ∷ refused 15 0 ∷ []
+half_absent_known = refl

@@ -5,48 +5,48 @@ use mathlib.Core.Bool.{Bool, true, false, cond}
 use mathlib.Core.List.{List, [], ◌∷◌}
 use lib.Dec.{leb, eqb}
 use borrow.Author.Tests.{leb-true, le-leb, eqb-true}
-use Rattle.paper.specs.Refusal.{refused, accepted, brokenRecord, tooDeep}
-use Rattle.paper.specs.Layout.{Kind, nothingKind, emptyKind, bytesKind, groupKind, sequenceKind, alternationKind, repeatKind, kinds, kindNumber}
-use Rattle.paper.specs.Check.{kind_at, bodyEnd, kindAmong, header, body, walkRecord}
-use Rattle.paper.proofs.layout.Accepted.{refused-not-accepted, accepted-injective, bind-accepted, holds-accepted, holds-passes}
+use Rattle.paper.specs.Refusal.{refused, accepted, broken_record, too_deep}
+use Rattle.paper.specs.Layout.{Kind, nothingKind, emptyKind, bytesKind, groupKind, sequenceKind, alternationKind, repeatKind, kinds, kind_number}
+use Rattle.paper.specs.Check.{kind_at, body_end, kind_among, header, body, walk_record}
+use Rattle.paper.proofs.layout.Accepted.{refused_not_accepted, accepted_injective, bind_accepted, holds_accepted, holds_passes}
 use Rattle.paper.proofs.layout.Turns.{Within}
 
-kind-found : (ks : List Kind) (number at : ℕ) (k : Kind) → kindAmong ks number at ≡ accepted k → number ≡ kindNumber k
-kind-found [] number at k e = absurd (refused-not-accepted e)
-kind-found (j ∷ js) number at k e = look (eqb number (kindNumber j)) refl e (kind-found js number at k)
+kind_found : (ks : List Kind) (number at : ℕ) (k : Kind) → kind_among ks number at ≡ accepted k → number ≡ kind_number k
+kind_found [] number at k e = absurd (refused_not_accepted e)
+kind_found (j ∷ js) number at k e = look (eqb number (kind_number j)) refl e (kind_found js number at k)
   where
-    look : (b : Bool) → eqb number (kindNumber j) ≡ b → cond b (accepted j) (kindAmong js number at) ≡ accepted k
-        → (kindAmong js number at ≡ accepted k → number ≡ kindNumber k) → number ≡ kindNumber k
-    look true t f later = eqb-true number (kindNumber j) t ∙ ap kindNumber (accepted-injective f)
+    look : (b : Bool) → eqb number (kind_number j) ≡ b → cond b (accepted j) (kind_among js number at) ≡ accepted k
+        → (kind_among js number at ≡ accepted k → number ≡ kind_number k) → number ≡ kind_number k
+    look true t f later = eqb-true number (kind_number j) t ∙ ap kind_number (accepted_injective f)
     look false t f later = later f
 
-kind-listed : (k : Kind) (at : ℕ) → kindAmong kinds (kindNumber k) at ≡ accepted k
-kind-listed nothingKind at = refl
-kind-listed emptyKind at = refl
-kind-listed bytesKind at = refl
-kind-listed groupKind at = refl
-kind-listed sequenceKind at = refl
-kind-listed alternationKind at = refl
-kind-listed repeatKind at = refl
+kind_listed : (k : Kind) (at : ℕ) → kind_among kinds (kind_number k) at ≡ accepted k
+kind_listed nothingKind at = refl
+kind_listed emptyKind at = refl
+kind_listed bytesKind at = refl
+kind_listed groupKind at = refl
+kind_listed sequenceKind at = refl
+kind_listed alternationKind at = refl
+kind_listed repeatKind at = refl
 
 -- an accepted header: the record ends inside its holder, and has its kind's number
-pub header-accepted : (bs : List ℕ) (at stop : ℕ) (k : Kind) → header bs at stop ≡ accepted k → (bodyEnd bs at ≤ stop) × (kind_at bs at ≡ kindNumber k)
-header-accepted bs at stop k e =
-    let (inside, known) = holds-accepted (leb (bodyEnd bs at) stop) brokenRecord at (kindAmong kinds (kind_at bs at) at) e in
-    (leb-true (bodyEnd bs at) stop inside, kind-found kinds (kind_at bs at) at k known)
+pub header_accepted : (bs : List ℕ) (at stop : ℕ) (k : Kind) → header bs at stop ≡ accepted k → (body_end bs at ≤ stop) × (kind_at bs at ≡ kind_number k)
+header_accepted bs at stop k e =
+    let (inside, known) = holds_accepted (leb (body_end bs at) stop) broken_record at (kind_among kinds (kind_at bs at) at) e in
+    (leb-true (body_end bs at) stop inside, kind_found kinds (kind_at bs at) at k known)
 
 -- a record that ends inside its holder and has a kind's number has an accepted header
-pub header-accepts : (bs : List ℕ) (at stop : ℕ) (k : Kind) → bodyEnd bs at ≤ stop → kind_at bs at ≡ kindNumber k → header bs at stop ≡ accepted k
-header-accepts bs at stop k inside named =
-    holds-passes brokenRecord at (kindAmong kinds (kind_at bs at) at) (le-leb (bodyEnd bs at) stop inside)
-    ∙ ap (λ (number : ℕ). kindAmong kinds number at) named
-    ∙ kind-listed k at
+pub header_accepts : (bs : List ℕ) (at stop : ℕ) (k : Kind) → body_end bs at ≤ stop → kind_at bs at ≡ kind_number k → header bs at stop ≡ accepted k
+header_accepts bs at stop k inside named =
+    holds_passes broken_record at (kind_among kinds (kind_at bs at) at) (le-leb (body_end bs at) stop inside)
+    ∙ ap (λ (number : ℕ). kind_among kinds number at) named
+    ∙ kind_listed k at
 
 -- an accepted record ends inside its holder
-pub walk-within : (left : ℕ) (bs : List ℕ) → Within bs (walkRecord left bs)
-walk-within zero bs at stop before e accepts =
-    let (kind, known, _) = bind-accepted (header bs at stop) (λ kind. refused tooDeep at) accepts in
-    (header-accepted bs at stop kind known).0
-walk-within (suc left) bs at stop before e accepts =
-    let (kind, known, _) = bind-accepted (header bs at stop) (λ kind. body kind (walkRecord left bs) bs at before) accepts in
-    (header-accepted bs at stop kind known).0
+pub walk_within : (left : ℕ) (bs : List ℕ) → Within bs (walk_record left bs)
+walk_within zero bs at stop before e accepts =
+    let (kind, known, _) = bind_accepted (header bs at stop) (λ kind. refused too_deep at) accepts in
+    (header_accepted bs at stop kind known).0
+walk_within (suc left) bs at stop before e accepts =
+    let (kind, known, _) = bind_accepted (header bs at stop) (λ kind. body kind (walk_record left bs) bs at before) accepts in
+    (header_accepted bs at stop kind known).0

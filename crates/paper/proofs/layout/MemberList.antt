@@ -5,12 +5,12 @@ use mathlib.Core.Path.{◌≡◌, refl, sym, ◌∙◌, ap}
 use mathlib.Core.Logic.{◌↔◌}
 use mathlib.Core.List.{List, [], ◌∷◌, ◌++◌, append-nil}
 use Rattle.paper.specs.Refusal.{accepted, ◌>>=◌}
-use Rattle.paper.specs.Pattern.{Pattern, Members, groups, groupsOfAll, levels, levelsOfAll}
+use Rattle.paper.specs.Pattern.{Pattern, Members, groups, groups_of_all, levels, levels_of_all}
 use Rattle.paper.specs.Pattern.Pattern.{sequence, alternation}
 use Rattle.paper.specs.Pattern.Members.{two, more}
-use Rattle.paper.specs.Layout.{recordOf, recordsOf, WellMade, AllWellMade}
-use Rattle.paper.specs.Check.{membersFrom, atLeastTwo, Walk, several, body}
-use Rattle.paper.proofs.layout.Accepted.{refused-not-accepted, accepted-injective}
+use Rattle.paper.specs.Layout.{record_of, records_of, WellMade, AllWellMade}
+use Rattle.paper.specs.Check.{members_from, at_least_two, Walk, several, body}
+use Rattle.paper.proofs.layout.Accepted.{refused_not_accepted, accepted_injective}
 use Rattle.paper.proofs.layout.TreeRecord.{kind_of, body_of}
 
 -- the members in order
@@ -21,11 +21,11 @@ list_of (more a ms) = a ∷ list_of ms
 -- the records of a list one behind the other, and the groups in them
 abbrev pub joined : List Pattern → List ℕ
 joined [] = []
-joined (e ∷ es) = recordOf e ++ joined es
+joined (e ∷ es) = record_of e ++ joined es
 
-abbrev pub groupsIn : List Pattern → ℕ
-groupsIn [] = 0
-groupsIn (e ∷ es) = groups e + groupsIn es
+abbrev pub groups_in : List Pattern → ℕ
+groups_in [] = 0
+groups_in (e ∷ es) = groups e + groups_in es
 
 -- every element of a list has a property
 abbrev pub Each : (Pattern → Type 0) → List Pattern → Type 0
@@ -34,15 +34,15 @@ Each P (e ∷ es) = P e × Each P es
 
 -- ---- members and lists
 
-list-of-members : (a b : Pattern) (rest : List Pattern) → list_of (membersFrom a b rest) ≡ a ∷ b ∷ rest
-list-of-members a b [] = refl
-list-of-members a b (c ∷ cs) = ap (λ (l : List Pattern). a ∷ l) (list-of-members b c cs)
+list_of_members : (a b : Pattern) (rest : List Pattern) → list_of (members_from a b rest) ≡ a ∷ b ∷ rest
+list_of_members a b [] = refl
+list_of_members a b (c ∷ cs) = ap (λ (l : List Pattern). a ∷ l) (list_of_members b c cs)
 
 -- the members that are accepted from a list have that list
-pub list-accepted : (es : List Pattern) (at : ℕ) (ms : Members) → atLeastTwo es at ≡ accepted ms → list_of ms ≡ es
-list-accepted [] at ms e = absurd (refused-not-accepted e)
-list-accepted (a ∷ []) at ms e = absurd (refused-not-accepted e)
-list-accepted (a ∷ b ∷ rest) at ms e = ap list_of (sym (accepted-injective e)) ∙ list-of-members a b rest
+pub list_accepted : (es : List Pattern) (at : ℕ) (ms : Members) → at_least_two es at ≡ accepted ms → list_of ms ≡ es
+list_accepted [] at ms e = absurd (refused_not_accepted e)
+list_accepted (a ∷ []) at ms e = absurd (refused_not_accepted e)
+list_accepted (a ∷ b ∷ rest) at ms e = ap list_of (sym (accepted_injective e)) ∙ list_of_members a b rest
 
 -- a list that begins with two and that gives these members
 record FromTwo (ms : Members) : Type 0 where
@@ -50,12 +50,12 @@ record FromTwo (ms : Members) : Type 0 where
   second : Pattern
   rest : List Pattern
   listed : list_of ms ≡ first ∷ second ∷ rest
-  made : membersFrom first second rest ≡ ms
+  made : members_from first second rest ≡ ms
 
-from-two : (ms : Members) → FromTwo ms
-from-two (two a b) = record { first = a; second = b; rest = []; listed = refl; made = refl }
-from-two (more a ms) =
-    let tail = from-two ms in
+from_two : (ms : Members) → FromTwo ms
+from_two (two a b) = record { first = a; second = b; rest = []; listed = refl; made = refl }
+from_two (more a ms) =
+    let tail = from_two ms in
     record {
       first = a;
       second = tail.first;
@@ -65,41 +65,41 @@ from-two (more a ms) =
     }
 
 -- from the list of members those members are accepted
-pub members-accepted : (ms : Members) (at : ℕ) → atLeastTwo (list_of ms) at ≡ accepted ms
-members-accepted ms at =
-    let parts = from-two ms in
-    ap (λ (l : List Pattern). atLeastTwo l at) parts.listed ∙ ap (λ (m : Members). accepted m) parts.made
+pub members_accepted : (ms : Members) (at : ℕ) → at_least_two (list_of ms) at ≡ accepted ms
+members_accepted ms at =
+    let parts = from_two ms in
+    ap (λ (l : List Pattern). at_least_two l at) parts.listed ∙ ap (λ (m : Members). accepted m) parts.made
 
 -- ---- what is said of members, said of their list
 
-pub records-joined : (ms : Members) → recordsOf ms ≡ joined (list_of ms)
-records-joined (two a b) = ap (λ (l : List ℕ). recordOf a ++ l) (sym (append-nil (recordOf b)))
-records-joined (more a ms) = ap (λ (l : List ℕ). recordOf a ++ l) (records-joined ms)
+pub records_joined : (ms : Members) → records_of ms ≡ joined (list_of ms)
+records_joined (two a b) = ap (λ (l : List ℕ). record_of a ++ l) (sym (append-nil (record_of b)))
+records_joined (more a ms) = ap (λ (l : List ℕ). record_of a ++ l) (records_joined ms)
 
-pub groups-listed : (ms : Members) → groupsOfAll ms ≡ groupsIn (list_of ms)
-groups-listed (two a b) = omega arith
-groups-listed (more a ms) = ap (λ (n : ℕ). groups a + n) (groups-listed ms)
+pub groups_listed : (ms : Members) → groups_of_all ms ≡ groups_in (list_of ms)
+groups_listed (two a b) = omega arith
+groups_listed (more a ms) = ap (λ (n : ℕ). groups a + n) (groups_listed ms)
 
-pub all-well-made : (ms : Members) → Each WellMade (list_of ms) → AllWellMade ms
-all-well-made (two a b) each = (each.0, each.1.0)
-all-well-made (more a ms) each = (each.0, all-well-made ms each.1)
+pub all_well_made : (ms : Members) → Each WellMade (list_of ms) → AllWellMade ms
+all_well_made (two a b) each = (each.0, each.1.0)
+all_well_made (more a ms) each = (each.0, all_well_made ms each.1)
 
-pub levels-listed : (ms : Members) {left : ℕ} → Each (λ e. levels e ≤ left) (list_of ms) → levelsOfAll ms ≤ left
-levels-listed (two a b) each = omega (arith, each.0, each.1.0)
-levels-listed (more a ms) each = omega (arith, each.0, levels-listed ms each.1)
+pub levels_listed : (ms : Members) {left : ℕ} → Each (λ e. levels e ≤ left) (list_of ms) → levels_of_all ms ≤ left
+levels_listed (two a b) each = omega (arith, each.0, each.1.0)
+levels_listed (more a ms) each = omega (arith, each.0, levels_listed ms each.1)
 
 -- ---- the two kinds that hold members
 
 -- what a sequence and an alternation have in common: the body is the members' records, and what is counted is counted in the members
 pub record Holder (tree : Members → Pattern) : Type 0 where
-  pub inside : (ms : Members) → body_of (tree ms) ≡ recordsOf ms
+  pub inside : (ms : Members) → body_of (tree ms) ≡ records_of ms
   pub made : (ms : Members) → WellMade (tree ms) ↔ AllWellMade ms
-  pub low : (ms : Members) → levels (tree ms) ≡ suc (levelsOfAll ms)
-  pub few : (ms : Members) → groups (tree ms) ≡ groupsOfAll ms
+  pub low : (ms : Members) → levels (tree ms) ≡ suc (levels_of_all ms)
+  pub few : (ms : Members) → groups (tree ms) ≡ groups_of_all ms
   pub walked : (ms : Members) (walk : Walk) (bs : List ℕ) (at before : ℕ) → body (kind_of (tree ms)) walk bs at before ≡ several walk bs at before >>= λ found. accepted (tree found)
 
-pub sequence-holds : Holder sequence
-sequence-holds = record { inside = λ ms. refl; made = λ ms. (λ m. m, λ m. m); low = λ ms. refl; few = λ ms. refl; walked = λ ms walk bs at before. refl }
+pub sequence_holds : Holder sequence
+sequence_holds = record { inside = λ ms. refl; made = λ ms. (λ m. m, λ m. m); low = λ ms. refl; few = λ ms. refl; walked = λ ms walk bs at before. refl }
 
-pub alternation-holds : Holder alternation
-alternation-holds = record { inside = λ ms. refl; made = λ ms. (λ m. m, λ m. m); low = λ ms. refl; few = λ ms. refl; walked = λ ms walk bs at before. refl }
+pub alternation_holds : Holder alternation
+alternation_holds = record { inside = λ ms. refl; made = λ ms. (λ m. m, λ m. m); low = λ ms. refl; few = λ ms. refl; walked = λ ms walk bs at before. refl }

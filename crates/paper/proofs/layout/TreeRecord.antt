@@ -6,9 +6,9 @@ use mathlib.Core.List.{List, [], ◌++◌}
 use lib.ListN.{length}
 use Rattle.paper.specs.Pattern.{Pattern}
 use Rattle.paper.specs.Pattern.Pattern.{nothing, empty, bytes, group, sequence, alternation, repeat}
-use Rattle.paper.specs.Layout.{recordBytes, Kind, nothingKind, emptyKind, bytesKind, groupKind, sequenceKind, alternationKind, repeatKind, kindNumber, rangeBytes, repeatBytes, recordOf, recordsOf}
-use Rattle.paper.specs.Check.{bodyEnd}
-use Rattle.paper.proofs.layout.Standing.{twoByteEnd, Stands, Standing, record-standing}
+use Rattle.paper.specs.Layout.{record_bytes, Kind, nothingKind, emptyKind, bytesKind, groupKind, sequenceKind, alternationKind, repeatKind, kind_number, range_bytes, repeat_bytes, record_of, records_of}
+use Rattle.paper.specs.Check.{body_end}
+use Rattle.paper.proofs.layout.Standing.{two_byte_end, Stands, Standing, record_standing}
 
 abbrev pub kind_of : Pattern → Kind
 kind_of nothing = nothingKind
@@ -22,40 +22,40 @@ kind_of (repeat least upper mode e) = repeatKind
 abbrev pub body_of : Pattern → List ℕ
 body_of nothing = []
 body_of empty = []
-body_of (bytes ranges) = rangeBytes ranges
-body_of (group e) = recordOf e
-body_of (sequence ms) = recordsOf ms
-body_of (alternation ms) = recordsOf ms
-body_of (repeat least upper mode e) = repeatBytes least upper mode ++ recordOf e
+body_of (bytes ranges) = range_bytes ranges
+body_of (group e) = record_of e
+body_of (sequence ms) = records_of ms
+body_of (alternation ms) = records_of ms
+body_of (repeat least upper mode e) = repeat_bytes least upper mode ++ record_of e
 
-pub record-of-body : (e : Pattern) → recordOf e ≡ recordBytes (kindNumber (kind_of e)) (body_of e)
-record-of-body nothing = refl
-record-of-body empty = refl
-record-of-body (bytes ranges) = refl
-record-of-body (group e) = refl
-record-of-body (sequence ms) = refl
-record-of-body (alternation ms) = refl
-record-of-body (repeat least upper mode e) = refl
+pub record_of_body : (e : Pattern) → record_of e ≡ record_bytes (kind_number (kind_of e)) (body_of e)
+record_of_body nothing = refl
+record_of_body empty = refl
+record_of_body (bytes ranges) = refl
+record_of_body (group e) = refl
+record_of_body (sequence ms) = refl
+record_of_body (alternation ms) = refl
+record_of_body (repeat least upper mode e) = refl
 
 -- a tree's record is four bytes and its body
-pub length-record : (e : Pattern) → length (recordOf e) ≡ 4 + length (body_of e)
-length-record e = ap length (record-of-body e) ∙ omega arith
+pub length_record : (e : Pattern) → length (record_of e) ≡ 4 + length (body_of e)
+length_record e = ap length (record_of_body e) ∙ omega arith
 
-kind-small : (k : Kind) → kindNumber k < twoByteEnd
-kind-small nothingKind = omega arith
-kind-small emptyKind = omega arith
-kind-small bytesKind = omega arith
-kind-small groupKind = omega arith
-kind-small sequenceKind = omega arith
-kind-small alternationKind = omega arith
-kind-small repeatKind = omega arith
+kind_small : (k : Kind) → kind_number k < two_byte_end
+kind_small nothingKind = omega arith
+kind_small emptyKind = omega arith
+kind_small bytesKind = omega arith
+kind_small groupKind = omega arith
+kind_small sequenceKind = omega arith
+kind_small alternationKind = omega arith
+kind_small repeatKind = omega arith
 
 -- a tree's record that stands at an offset has its numbers and its body there
-pub tree-standing : (bs : List ℕ) (at : ℕ) (e : Pattern) → length (recordOf e) < twoByteEnd → Stands bs at (recordOf e) → Standing bs at (kindNumber (kind_of e)) (body_of e)
-tree-standing bs at e short s =
-    record-standing bs at (kindNumber (kind_of e)) (body_of e) (omega (arith, length-record e)) (kind-small (kind_of e))
-    (subst (λ (l : List ℕ). Stands bs at l) (record-of-body e) s)
+pub tree_standing : (bs : List ℕ) (at : ℕ) (e : Pattern) → length (record_of e) < two_byte_end → Stands bs at (record_of e) → Standing bs at (kind_number (kind_of e)) (body_of e)
+tree_standing bs at e short s =
+    record_standing bs at (kind_number (kind_of e)) (body_of e) (omega (arith, length_record e)) (kind_small (kind_of e))
+    (subst (λ (l : List ℕ). Stands bs at l) (record_of_body e) s)
 
 -- so it ends where its bytes end
-pub end-standing : (bs : List ℕ) (at : ℕ) (e : Pattern) → length (recordOf e) < twoByteEnd → Stands bs at (recordOf e) → bodyEnd bs at ≡ at + length (recordOf e)
-end-standing bs at e short s = omega (arith, (tree-standing bs at e short s).size, length-record e)
+pub end_standing : (bs : List ℕ) (at : ℕ) (e : Pattern) → length (record_of e) < two_byte_end → Stands bs at (record_of e) → body_end bs at ≡ at + length (record_of e)
+end_standing bs at e short s = omega (arith, (tree_standing bs at e short s).size, length_record e)

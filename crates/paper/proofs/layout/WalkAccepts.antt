@@ -7,100 +7,100 @@ use mathlib.Core.List.{List, [], ◌∷◌, ◌++◌}
 use lib.Dec.{eqb}
 use lib.ListN.{length, length-append}
 use borrow.Author.Tests.{lt-ltb, le-leb, eq-eqb}
-use Rattle.paper.specs.Limits.{patternGroups}
-use Rattle.paper.specs.Refusal.{Checked, accepted, ◌>>=◌, ◌>>◌, holds, brokenRecord, setWrong, repeatWrong, tooManyGroups}
-use Rattle.paper.specs.Pattern.{Mode, Upper, Range, Pattern, Members, groups, groupsOfAll, levels, levelsOfAll}
+use Rattle.paper.specs.Limits.{pattern_groups}
+use Rattle.paper.specs.Refusal.{Checked, accepted, ◌>>=◌, ◌>>◌, holds, broken_record, set_wrong, repeat_wrong, too_many_groups}
+use Rattle.paper.specs.Pattern.{Mode, Upper, Range, Pattern, Members, groups, groups_of_all, levels, levels_of_all}
 use Rattle.paper.specs.Pattern.Pattern.{nothing, empty, bytes, group, sequence, alternation, repeat}
 use Rattle.paper.specs.Pattern.Members.{two, more}
-use Rattle.paper.specs.Layout.{twoBytes, kindNumber, upperNumber, modeNumber, repeatBytes, rangeBytes, recordOf, recordsOf, CountsRight, WellMade, AllWellMade}
-use Rattle.paper.specs.Check.{number_at, bodyLength, bodyStart, bodyEnd, part, bare, rangesOf, setRight, repeatNumbersRight, upperOf, mode_of, repeatHead, single, walkAll, atLeastTwo, body, walkRecord}
-use Rattle.paper.proofs.layout.Accepted.{holds-passes}
-use Rattle.paper.proofs.layout.Standing.{twoByteEnd, Stands, Standing, stands-first, stands-second, number-standing, part-standing}
-use Rattle.paper.proofs.layout.SetBody.{ranges-of-bytes, right-set}
-use Rattle.paper.proofs.layout.RepeatBody.{upper-of-number, mode-of-number, counts-small, mode_small, right-numbers}
-use Rattle.paper.proofs.layout.Turns.{walk-all-none, walk-all-accepts}
-use Rattle.paper.proofs.layout.TreeRecord.{kind_of, body_of, length-record, tree-standing, end-standing}
-use Rattle.paper.proofs.layout.MemberList.{list_of, members-accepted, Holder, sequence-holds, alternation-holds}
-use Rattle.paper.proofs.layout.Header.{header-accepts}
+use Rattle.paper.specs.Layout.{two_bytes, kind_number, upper_number, mode_number, repeat_bytes, range_bytes, record_of, records_of, CountsRight, WellMade, AllWellMade}
+use Rattle.paper.specs.Check.{number_at, body_length, body_start, body_end, part, bare, ranges_of, set_right, repeat_numbers_right, upper_of, mode_of, repeat_head, single, walk_all, at_least_two, body, walk_record}
+use Rattle.paper.proofs.layout.Accepted.{holds_passes}
+use Rattle.paper.proofs.layout.Standing.{two_byte_end, Stands, Standing, stands_first, stands_second, number_standing, part_standing}
+use Rattle.paper.proofs.layout.SetBody.{ranges_of_bytes, right_set}
+use Rattle.paper.proofs.layout.RepeatBody.{upper_of_number, mode_of_number, counts_small, mode_small, right_numbers}
+use Rattle.paper.proofs.layout.Turns.{walk_all_none, walk_all_accepts}
+use Rattle.paper.proofs.layout.TreeRecord.{kind_of, body_of, length_record, tree_standing, end_standing}
+use Rattle.paper.proofs.layout.MemberList.{list_of, members_accepted, Holder, sequence_holds, alternation_holds}
+use Rattle.paper.proofs.layout.Header.{header_accepts}
 
 -- a tree that keeps the table, whose record stands at `at` inside its holder and is within the limits
 pub record Fitting (bs : List ℕ) (left at stop before : ℕ) (e : Pattern) : Type 0 where
-  pub stands : Stands bs at (recordOf e)
-  pub ends : at + length (recordOf e) ≤ stop
+  pub stands : Stands bs at (record_of e)
+  pub ends : at + length (record_of e) ≤ stop
   pub inside : stop ≤ length bs
-  pub short : length (recordOf e) < twoByteEnd
+  pub short : length (record_of e) < two_byte_end
   pub made : WellMade e
   pub low : levels e ≤ left
-  pub few : before + groups e ≤ patternGroups
+  pub few : before + groups e ≤ pattern_groups
 
 -- members that keep the table, whose records stand from `at` up to the holder's end and are within the limits
 record FittingAll (bs : List ℕ) (left at stop before : ℕ) (ms : Members) : Type 0 where
-  stands : Stands bs at (recordsOf ms)
-  ends : at + length (recordsOf ms) ≡ stop
+  stands : Stands bs at (records_of ms)
+  ends : at + length (records_of ms) ≡ stop
   inside : stop ≤ length bs
-  short : length (recordsOf ms) < twoByteEnd
+  short : length (records_of ms) < two_byte_end
   made : AllWellMade ms
-  low : levelsOfAll ms ≤ left
-  few : before + groupsOfAll ms ≤ patternGroups
+  low : levels_of_all ms ≤ left
+  few : before + groups_of_all ms ≤ pattern_groups
 
 abbrev Accepts : List ℕ → Pattern → Type 0
-Accepts bs e = (left at stop before : ℕ) → Fitting bs left at stop before e → walkRecord left bs at stop before ≡ accepted e
+Accepts bs e = (left at stop before : ℕ) → Fitting bs left at stop before e → walk_record left bs at stop before ≡ accepted e
 
 abbrev AcceptsAll : List ℕ → Members → Type 0
 AcceptsAll bs ms =
     (left at stop before turns : ℕ) → FittingAll bs left at stop before ms → stop - at ≤ turns
-    → walkAll turns (walkRecord left bs) bs at stop before ≡ accepted (list_of ms)
+    → walk_all turns (walk_record left bs) bs at stop before ≡ accepted (list_of ms)
 
-levels-positive : (e : Pattern) → 1 ≤ levels e
-levels-positive nothing = omega arith
-levels-positive empty = omega arith
-levels-positive (bytes ranges) = omega arith
-levels-positive (group e) = omega arith
-levels-positive (sequence ms) = omega arith
-levels-positive (alternation ms) = omega arith
-levels-positive (repeat least upper mode e) = omega arith
+levels_positive : (e : Pattern) → 1 ≤ levels e
+levels_positive nothing = omega arith
+levels_positive empty = omega arith
+levels_positive (bytes ranges) = omega arith
+levels_positive (group e) = omega arith
+levels_positive (sequence ms) = omega arith
+levels_positive (alternation ms) = omega arith
+levels_positive (repeat least upper mode e) = omega arith
 
 module _ (bs : List ℕ) where
   -- where the record stands and a level is left, the walk is what the body's walk is
   enters : (e : Pattern) (left at stop before : ℕ) → Fitting bs left at stop before e
-      → (Standing bs at (kindNumber (kind_of e)) (body_of e) → (below : ℕ) → left ≡ suc below → body (kind_of e) (walkRecord below bs) bs at before ≡ accepted e)
-      → walkRecord left bs at stop before ≡ accepted e
-  enters e zero at stop before fit goes_on = absurd (omega (arith, levels-positive e, fit.low))
+      → (Standing bs at (kind_number (kind_of e)) (body_of e) → (below : ℕ) → left ≡ suc below → body (kind_of e) (walk_record below bs) bs at before ≡ accepted e)
+      → walk_record left bs at stop before ≡ accepted e
+  enters e zero at stop before fit goes_on = absurd (omega (arith, levels_positive e, fit.low))
   enters e (suc below) at stop before fit goes_on =
-      let here = tree-standing bs at e fit.short fit.stands in
-      let end = end-standing bs at e fit.short fit.stands in
-      ap (λ (c : Checked _). c >>= λ kind. body kind (walkRecord below bs) bs at before) (header-accepts bs at stop (kind_of e) (omega (arith, end, fit.ends)) here.named)
+      let here = tree_standing bs at e fit.short fit.stands in
+      let end = end_standing bs at e fit.short fit.stands in
+      ap (λ (c : Checked _). c >>= λ kind. body kind (walk_record below bs) bs at before) (header_accepts bs at stop (kind_of e) (omega (arith, end, fit.ends)) here.named)
       ∙ goes_on here below refl
 
-  bare-accepts : (tree : Pattern) (at : ℕ) → bodyLength bs at ≡ 0 → bare tree bs at ≡ accepted tree
-  bare-accepts tree at none = holds-passes brokenRecord at (accepted tree) (eq-eqb (bodyLength bs at) 0 none)
+  bare_accepts : (tree : Pattern) (at : ℕ) → body_length bs at ≡ 0 → bare tree bs at ≡ accepted tree
+  bare_accepts tree at none = holds_passes broken_record at (accepted tree) (eq-eqb (body_length bs at) 0 none)
 
-  set-accepts : (ranges : List Range) → Accepts bs (bytes ranges)
-  set-accepts ranges left at stop before fit =
+  set_accepts : (ranges : List Range) → Accepts bs (bytes ranges)
+  set_accepts ranges left at stop before fit =
       enters (bytes ranges) left at stop before fit λ here below _.
-      let end = end-standing bs at (bytes ranges) fit.short fit.stands in
-      let inside : bodyEnd bs at ≤ length bs = omega (arith, end, fit.ends, fit.inside) in
-      let read = part-standing bs (bodyStart at) (bodyEnd bs at) (rangeBytes ranges) (omega (arith, here.size)) inside here.inside in
-      ap (λ (l : List ℕ). holds (setRight l) setWrong at >> accepted (bytes (rangesOf l))) read
-      ∙ holds-passes setWrong at (accepted (bytes (rangesOf (rangeBytes ranges)))) (right-set ranges fit.made)
-      ∙ ap (λ (rs : List Range). accepted (bytes rs)) (ranges-of-bytes ranges)
+      let end = end_standing bs at (bytes ranges) fit.short fit.stands in
+      let inside : body_end bs at ≤ length bs = omega (arith, end, fit.ends, fit.inside) in
+      let read = part_standing bs (body_start at) (body_end bs at) (range_bytes ranges) (omega (arith, here.size)) inside here.inside in
+      ap (λ (l : List ℕ). holds (set_right l) set_wrong at >> accepted (bytes (ranges_of l))) read
+      ∙ holds_passes set_wrong at (accepted (bytes (ranges_of (range_bytes ranges)))) (right_set ranges fit.made)
+      ∙ ap (λ (rs : List Range). accepted (bytes rs)) (ranges_of_bytes ranges)
 
   -- the single record that fills what is left of its holder is accepted
-  single-accepts : (e : Pattern) → Accepts bs e → (below at start before : ℕ) → start + length (recordOf e) ≡ bodyEnd bs at → Fitting bs below start (bodyEnd bs at) before e
-      → single (walkRecord below bs) bs at start before ≡ accepted e
-  single-accepts e accepts below at start before full fit =
-      ap (λ (c : Checked Pattern). c >>= λ m. holds (eqb (bodyEnd bs start) (bodyEnd bs at)) brokenRecord at >> accepted m) (accepts below start (bodyEnd bs at) before fit)
-      ∙ holds-passes brokenRecord at (accepted e) (eq-eqb (bodyEnd bs start) (bodyEnd bs at) (end-standing bs start e fit.short fit.stands ∙ full))
+  single_accepts : (e : Pattern) → Accepts bs e → (below at start before : ℕ) → start + length (record_of e) ≡ body_end bs at → Fitting bs below start (body_end bs at) before e
+      → single (walk_record below bs) bs at start before ≡ accepted e
+  single_accepts e accepts below at start before full fit =
+      ap (λ (c : Checked Pattern). c >>= λ m. holds (eqb (body_end bs start) (body_end bs at)) broken_record at >> accepted m) (accepts below start (body_end bs at) before fit)
+      ∙ holds_passes broken_record at (accepted e) (eq-eqb (body_end bs start) (body_end bs at) (end_standing bs start e fit.short fit.stands ∙ full))
 
-  group-accepts : (e : Pattern) → Accepts bs e → Accepts bs (group e)
-  group-accepts e accepts left at stop before fit =
+  group_accepts : (e : Pattern) → Accepts bs e → Accepts bs (group e)
+  group_accepts e accepts left at stop before fit =
       enters (group e) left at stop before fit λ here below left≡.
-      let full : bodyStart at + length (recordOf e) ≡ bodyEnd bs at = omega (arith, here.size) in
-      let end = end-standing bs at (group e) fit.short fit.stands in
-      let long = length-record (group e) in
-      holds-passes tooManyGroups at (single (walkRecord below bs) bs at (bodyStart at) (before + 1) >>= λ m. accepted (group m)) (lt-ltb before patternGroups (omega (arith, fit.few)))
+      let full : body_start at + length (record_of e) ≡ body_end bs at = omega (arith, here.size) in
+      let end = end_standing bs at (group e) fit.short fit.stands in
+      let long = length_record (group e) in
+      holds_passes too_many_groups at (single (walk_record below bs) bs at (body_start at) (before + 1) >>= λ m. accepted (group m)) (lt-ltb before pattern_groups (omega (arith, fit.few)))
       ∙ ap (λ (c : Checked Pattern). c >>= λ m. accepted (group m))
-      (single-accepts e accepts below at (bodyStart at) (before + 1) full
+      (single_accepts e accepts below at (body_start at) (before + 1) full
       (record {
         stands = here.inside;
         ends = omega arith;
@@ -112,30 +112,30 @@ module _ (bs : List ℕ) where
       }))
 
   -- the three numbers of a repeat are read where their bytes stand
-  numbers-read : (start least : ℕ) (upper : Upper) (mode : Mode) → CountsRight least upper → Stands bs start (repeatBytes least upper mode)
-      → (number_at bs start ≡ least) × (number_at bs (start + 2) ≡ upperNumber upper) × (number_at bs (start + 4) ≡ modeNumber mode)
-  numbers-read start least upper mode counts stands =
-      let small = counts-small least upper counts in
-      let most = upperNumber upper in
-      let last = modeNumber mode in
-      let ends = stands-first bs start (twoBytes least ++ twoBytes most) (twoBytes last) stands in (
-        number-standing bs start least (omega (arith, small)) (stands-first bs start (twoBytes least) (twoBytes most) ends),
-        number-standing bs (start + 2) most small.2 (stands-second bs start (twoBytes least) (twoBytes most) ends),
-        number-standing bs (start + 4) last (omega (arith, mode_small mode)) (stands-second bs start (twoBytes least ++ twoBytes most) (twoBytes last) stands),
+  numbers_read : (start least : ℕ) (upper : Upper) (mode : Mode) → CountsRight least upper → Stands bs start (repeat_bytes least upper mode)
+      → (number_at bs start ≡ least) × (number_at bs (start + 2) ≡ upper_number upper) × (number_at bs (start + 4) ≡ mode_number mode)
+  numbers_read start least upper mode counts stands =
+      let small = counts_small least upper counts in
+      let most = upper_number upper in
+      let last = mode_number mode in
+      let ends = stands_first bs start (two_bytes least ++ two_bytes most) (two_bytes last) stands in (
+        number_standing bs start least (omega (arith, small)) (stands_first bs start (two_bytes least) (two_bytes most) ends),
+        number_standing bs (start + 2) most small.2 (stands_second bs start (two_bytes least) (two_bytes most) ends),
+        number_standing bs (start + 4) last (omega (arith, mode_small mode)) (stands_second bs start (two_bytes least ++ two_bytes most) (two_bytes last) stands),
       )
 
-  repeat-accepts : (least : ℕ) (upper : Upper) (mode : Mode) (e : Pattern) → Accepts bs e → Accepts bs (repeat least upper mode e)
-  repeat-accepts least upper mode e accepts left at stop before fit =
+  repeat_accepts : (least : ℕ) (upper : Upper) (mode : Mode) (e : Pattern) → Accepts bs e → Accepts bs (repeat least upper mode e)
+  repeat_accepts least upper mode e accepts left at stop before fit =
       enters (repeat least upper mode e) left at stop before fit λ here below left≡.
-      let start = bodyStart at in
+      let start = body_start at in
       let tree = repeat least upper mode e in
-      let end = end-standing bs at tree fit.short fit.stands in
-      let long = length-record tree in
-      let size = length-append (repeatBytes least upper mode) (recordOf e) in
-      let full : start + repeatHead + length (recordOf e) ≡ bodyEnd bs at = omega (arith, here.size) in
-      let fits : Fitting bs below (start + repeatHead) (bodyEnd bs at) before e =
+      let end = end_standing bs at tree fit.short fit.stands in
+      let long = length_record tree in
+      let size = length-append (repeat_bytes least upper mode) (record_of e) in
+      let full : start + repeat_head + length (record_of e) ≡ body_end bs at = omega (arith, here.size) in
+      let fits : Fitting bs below (start + repeat_head) (body_end bs at) before e =
       record {
-        stands = stands-second bs start (repeatBytes least upper mode) (recordOf e) here.inside;
+        stands = stands_second bs start (repeat_bytes least upper mode) (record_of e) here.inside;
         ends = omega arith;
         inside = omega (arith, end, fit.ends, fit.inside);
         short = omega (arith, long, fit.short);
@@ -144,33 +144,33 @@ module _ (bs : List ℕ) where
         few = fit.few;
       } in
       let counts = fit.made.0 in
-      let most = upperNumber upper in
-      let last = modeNumber mode in
-      let (leastRead, mostRead, modeRead) = numbers-read start least upper mode counts (stands-first bs start (repeatBytes least upper mode) (recordOf e) here.inside) in
-      let inner = single (walkRecord below bs) bs at (start + repeatHead) before in
-      let behind : ℕ → ℕ → ℕ → Checked Pattern = λ a b c. inner >>= λ m. accepted (repeat a (upperOf b) (mode_of c) m) in
-      let tested : ℕ → ℕ → ℕ → Checked Pattern = λ a b c. holds (repeatNumbersRight a b c) repeatWrong at >> behind a b c in
+      let most = upper_number upper in
+      let last = mode_number mode in
+      let (leastRead, mostRead, modeRead) = numbers_read start least upper mode counts (stands_first bs start (repeat_bytes least upper mode) (record_of e) here.inside) in
+      let inner = single (walk_record below bs) bs at (start + repeat_head) before in
+      let behind : ℕ → ℕ → ℕ → Checked Pattern = λ a b c. inner >>= λ m. accepted (repeat a (upper_of b) (mode_of c) m) in
+      let tested : ℕ → ℕ → ℕ → Checked Pattern = λ a b c. holds (repeat_numbers_right a b c) repeat_wrong at >> behind a b c in
       let found = tested (number_at bs start) (number_at bs (start + 2)) (number_at bs (start + 4)) in
       let read : found ≡ tested least most last = λ i. tested (leastRead i) (mostRead i) (modeRead i) in
-      let back : accepted (repeat least (upperOf most) (mode_of last) e) ≡ accepted tree =
-      λ i. accepted (repeat least (upper-of-number least upper counts i) (mode-of-number mode i) e) in
-      holds-passes brokenRecord at found (le-leb repeatHead (bodyLength bs at) (omega (arith, here.size)))
+      let back : accepted (repeat least (upper_of most) (mode_of last) e) ≡ accepted tree =
+      λ i. accepted (repeat least (upper_of_number least upper counts i) (mode_of_number mode i) e) in
+      holds_passes broken_record at found (le-leb repeat_head (body_length bs at) (omega (arith, here.size)))
       ∙ read
-      ∙ holds-passes repeatWrong at (behind least most last) (right-numbers least upper mode counts)
-      ∙ ap (λ (c : Checked Pattern). c >>= λ m. accepted (repeat least (upperOf most) (mode_of last) m)) (single-accepts e accepts below at (start + repeatHead) before full fits)
+      ∙ holds_passes repeat_wrong at (behind least most last) (right_numbers least upper mode counts)
+      ∙ ap (λ (c : Checked Pattern). c >>= λ m. accepted (repeat least (upper_of most) (mode_of last) m)) (single_accepts e accepts below at (start + repeat_head) before full fits)
       ∙ back
 
-  holder-accepts : (tree : Members → Pattern) → Holder tree → (ms : Members) → AcceptsAll bs ms → Accepts bs (tree ms)
-  holder-accepts tree holder ms accepts left at stop before fit =
+  holder_accepts : (tree : Members → Pattern) → Holder tree → (ms : Members) → AcceptsAll bs ms → Accepts bs (tree ms)
+  holder_accepts tree holder ms accepts left at stop before fit =
       enters (tree ms) left at stop before fit λ here below left≡.
-      let end = end-standing bs at (tree ms) fit.short fit.stands in
-      let long = length-record (tree ms) in
-      let same : length (body_of (tree ms)) ≡ length (recordsOf ms) = ap length (holder.inside ms) in
-      holder.walked ms (walkRecord below bs) bs at before
-      ∙ ap (λ (c : Checked (List Pattern)). c >>= (λ es. atLeastTwo es at) >>= λ found. accepted (tree found))
-      (accepts below (bodyStart at) (bodyEnd bs at) before (bodyLength bs at)
+      let end = end_standing bs at (tree ms) fit.short fit.stands in
+      let long = length_record (tree ms) in
+      let same : length (body_of (tree ms)) ≡ length (records_of ms) = ap length (holder.inside ms) in
+      holder.walked ms (walk_record below bs) bs at before
+      ∙ ap (λ (c : Checked (List Pattern)). c >>= (λ es. at_least_two es at) >>= λ found. accepted (tree found))
+      (accepts below (body_start at) (body_end bs at) before (body_length bs at)
       (record {
-        stands = subst (Stands bs (bodyStart at)) (holder.inside ms) here.inside;
+        stands = subst (Stands bs (body_start at)) (holder.inside ms) here.inside;
         ends = omega (arith, here.size);
         inside = omega (arith, end, fit.ends, fit.inside);
         short = omega (arith, long, fit.short);
@@ -179,24 +179,24 @@ module _ (bs : List ℕ) where
         few = omega (arith, holder.few ms, fit.few);
       })
       (omega arith))
-      ∙ ap (λ (c : Checked Members). c >>= λ found. accepted (tree found)) (members-accepted ms at)
+      ∙ ap (λ (c : Checked Members). c >>= λ found. accepted (tree found)) (members_accepted ms at)
 
   -- a member before others that are accepted
-  front-accepts : (e : Pattern) (es : List Pattern) → Accepts bs e → (left at stop before turns : ℕ) → Fitting bs left at stop before e → stop - at ≤ turns
-      → walkAll turns (walkRecord left bs) bs (at + length (recordOf e)) stop (before + groups e) ≡ accepted es
-      → walkAll turns (walkRecord left bs) bs at stop before ≡ accepted (e ∷ es)
-  front-accepts e es accepts left at stop before turns fit enough rest =
-      let end = end-standing bs at e fit.short fit.stands in
-      walk-all-accepts (walkRecord left bs) bs turns at stop before e es enough (omega (arith, length-record e, fit.ends)) (accepts left at stop before fit)
-      (ap (λ (n : ℕ). walkAll turns (walkRecord left bs) bs n stop (before + groups e)) end ∙ rest)
+  front_accepts : (e : Pattern) (es : List Pattern) → Accepts bs e → (left at stop before turns : ℕ) → Fitting bs left at stop before e → stop - at ≤ turns
+      → walk_all turns (walk_record left bs) bs (at + length (record_of e)) stop (before + groups e) ≡ accepted es
+      → walk_all turns (walk_record left bs) bs at stop before ≡ accepted (e ∷ es)
+  front_accepts e es accepts left at stop before turns fit enough rest =
+      let end = end_standing bs at e fit.short fit.stands in
+      walk_all_accepts (walk_record left bs) bs turns at stop before e es enough (omega (arith, length_record e, fit.ends)) (accepts left at stop before fit)
+      (ap (λ (n : ℕ). walk_all turns (walk_record left bs) bs n stop (before + groups e)) end ∙ rest)
 
   -- a member that stands before other bytes of its holder fits into it
-  front_fits : (a : Pattern) (others : List ℕ) (left at stop before : ℕ) → Stands bs at (recordOf a ++ others) → at + length (recordOf a ++ others) ≡ stop → stop ≤ length bs
-      → length (recordOf a ++ others) < twoByteEnd → WellMade a → levels a ≤ left → before + groups a ≤ patternGroups → Fitting bs left at stop before a
+  front_fits : (a : Pattern) (others : List ℕ) (left at stop before : ℕ) → Stands bs at (record_of a ++ others) → at + length (record_of a ++ others) ≡ stop → stop ≤ length bs
+      → length (record_of a ++ others) < two_byte_end → WellMade a → levels a ≤ left → before + groups a ≤ pattern_groups → Fitting bs left at stop before a
   front_fits a others left at stop before stands ends inside short made low few =
-      let size = length-append (recordOf a) others in
+      let size = length-append (record_of a) others in
       record {
-        stands = stands-first bs at (recordOf a) others stands;
+        stands = stands_first bs at (record_of a) others stands;
         ends = omega arith;
         inside = inside;
         short = omega arith;
@@ -205,13 +205,13 @@ module _ (bs : List ℕ) where
         few = few;
       }
 
-  two-accept : (a b : Pattern) → Accepts bs a → Accepts bs b → AcceptsAll bs (two a b)
-  two-accept a b first second left at stop before turns fit enough =
-      let size = length-append (recordOf a) (recordOf b) in
-      let after = at + length (recordOf a) in
+  two_accept : (a b : Pattern) → Accepts bs a → Accepts bs b → AcceptsAll bs (two a b)
+  two_accept a b first second left at stop before turns fit enough =
+      let size = length-append (record_of a) (record_of b) in
+      let after = at + length (record_of a) in
       let last : Fitting bs left after stop (before + groups a) b =
       record {
-        stands = stands-second bs at (recordOf a) (recordOf b) fit.stands;
+        stands = stands_second bs at (record_of a) (record_of b) fit.stands;
         ends = omega (arith, fit.ends);
         inside = fit.inside;
         short = omega (arith, fit.short);
@@ -219,19 +219,19 @@ module _ (bs : List ℕ) where
         low = omega (arith, fit.low);
         few = omega (arith, fit.few);
       } in
-      front-accepts a (b ∷ []) first left at stop before turns
-      (front_fits a (recordOf b) left at stop before fit.stands fit.ends fit.inside fit.short fit.made.0 (omega (arith, fit.low)) (omega (arith, fit.few)))
+      front_accepts a (b ∷ []) first left at stop before turns
+      (front_fits a (record_of b) left at stop before fit.stands fit.ends fit.inside fit.short fit.made.0 (omega (arith, fit.low)) (omega (arith, fit.few)))
       enough
-      (front-accepts b [] second left after stop (before + groups a) turns last (omega arith)
-      (walk-all-none turns (walkRecord left bs) bs (after + length (recordOf b)) stop (before + groups a + groups b) (omega (arith, fit.ends))))
+      (front_accepts b [] second left after stop (before + groups a) turns last (omega arith)
+      (walk_all_none turns (walk_record left bs) bs (after + length (record_of b)) stop (before + groups a + groups b) (omega (arith, fit.ends))))
 
-  more-accept : (a : Pattern) (ms : Members) → Accepts bs a → AcceptsAll bs ms → AcceptsAll bs (more a ms)
-  more-accept a ms first others left at stop before turns fit enough =
-      let size = length-append (recordOf a) (recordsOf ms) in
-      let after = at + length (recordOf a) in
+  more_accept : (a : Pattern) (ms : Members) → Accepts bs a → AcceptsAll bs ms → AcceptsAll bs (more a ms)
+  more_accept a ms first others left at stop before turns fit enough =
+      let size = length-append (record_of a) (records_of ms) in
+      let after = at + length (record_of a) in
       let rest : FittingAll bs left after stop (before + groups a) ms =
       record {
-        stands = stands-second bs at (recordOf a) (recordsOf ms) fit.stands;
+        stands = stands_second bs at (record_of a) (records_of ms) fit.stands;
         ends = omega (arith, fit.ends);
         inside = fit.inside;
         short = omega (arith, fit.short);
@@ -239,25 +239,25 @@ module _ (bs : List ℕ) where
         low = omega (arith, fit.low);
         few = omega (arith, fit.few);
       } in
-      front-accepts a (list_of ms) first left at stop before turns
-      (front_fits a (recordsOf ms) left at stop before fit.stands fit.ends fit.inside fit.short fit.made.0 (omega (arith, fit.low)) (omega (arith, fit.few)))
+      front_accepts a (list_of ms) first left at stop before turns
+      (front_fits a (records_of ms) left at stop before fit.stands fit.ends fit.inside fit.short fit.made.0 (omega (arith, fit.low)) (omega (arith, fit.few)))
       enough
       (others left after stop (before + groups a) turns rest (omega arith))
 
 mutual
-  tree-accepts : (e : Pattern) (bs : List ℕ) → Accepts bs e
-  tree-accepts nothing bs = λ left at stop before fit. enters bs nothing left at stop before fit λ here below _. bare-accepts bs nothing at here.size
-  tree-accepts empty bs = λ left at stop before fit. enters bs empty left at stop before fit λ here below _. bare-accepts bs empty at here.size
-  tree-accepts (bytes ranges) bs = set-accepts bs ranges
-  tree-accepts (group e) bs = group-accepts bs e (tree-accepts e bs)
-  tree-accepts (sequence ms) bs = holder-accepts bs sequence sequence-holds ms (members-accept ms bs)
-  tree-accepts (alternation ms) bs = holder-accepts bs alternation alternation-holds ms (members-accept ms bs)
-  tree-accepts (repeat least upper mode e) bs = repeat-accepts bs least upper mode e (tree-accepts e bs)
+  tree_accepts : (e : Pattern) (bs : List ℕ) → Accepts bs e
+  tree_accepts nothing bs = λ left at stop before fit. enters bs nothing left at stop before fit λ here below _. bare_accepts bs nothing at here.size
+  tree_accepts empty bs = λ left at stop before fit. enters bs empty left at stop before fit λ here below _. bare_accepts bs empty at here.size
+  tree_accepts (bytes ranges) bs = set_accepts bs ranges
+  tree_accepts (group e) bs = group_accepts bs e (tree_accepts e bs)
+  tree_accepts (sequence ms) bs = holder_accepts bs sequence sequence_holds ms (members_accept ms bs)
+  tree_accepts (alternation ms) bs = holder_accepts bs alternation alternation_holds ms (members_accept ms bs)
+  tree_accepts (repeat least upper mode e) bs = repeat_accepts bs least upper mode e (tree_accepts e bs)
 
-  members-accept : (ms : Members) (bs : List ℕ) → AcceptsAll bs ms
-  members-accept (two a b) bs = two-accept bs a b (tree-accepts a bs) (tree-accepts b bs)
-  members-accept (more a ms) bs = more-accept bs a ms (tree-accepts a bs) (members-accept ms bs)
+  members_accept : (ms : Members) (bs : List ℕ) → AcceptsAll bs ms
+  members_accept (two a b) bs = two_accept bs a b (tree_accepts a bs) (tree_accepts b bs)
+  members_accept (more a ms) bs = more_accept bs a ms (tree_accepts a bs) (members_accept ms bs)
 
 -- the walk accepts what is there
-pub walk-accepts : (bs : List ℕ) (left at stop before : ℕ) (e : Pattern) → Fitting bs left at stop before e → walkRecord left bs at stop before ≡ accepted e
-walk-accepts bs left at stop before e fit = tree-accepts e bs left at stop before fit
+pub walk_accepts : (bs : List ℕ) (left at stop before : ℕ) (e : Pattern) → Fitting bs left at stop before e → walk_record left bs at stop before ≡ accepted e
+walk_accepts bs left at stop before e fit = tree_accepts e bs left at stop before fit

@@ -27,18 +27,18 @@ every_bind P Q (o ∷ os) next h g =
     every_append Q (next o.end o.rows) (bind os next) (g o.end o.rows h.0) (every_bind P Q os next h.1 g)
 
 -- a property may be weakened
-pub every-weaken : (P Q : Property) (os : List Outcome) → Every P os → ((p : ℕ) (rows : Rows) → P p rows → Q p rows) → Every Q os
-every-weaken P Q [] h g = tt
-every-weaken P Q (o ∷ os) h g = (g o.end o.rows h.0, every-weaken P Q os h.1 g)
+pub every_weaken : (P Q : Property) (os : List Outcome) → Every P os → ((p : ℕ) (rows : Rows) → P p rows → Q p rows) → Every Q os
+every_weaken P Q [] h g = tt
+every_weaken P Q (o ∷ os) h g = (g o.end o.rows h.0, every_weaken P Q os h.1 g)
 
 -- two properties of every outcome are one
-pub every-both : (P Q : Property) (os : List Outcome) → Every P os → Every Q os → Every (λ p rows. P p rows × Q p rows) os
-every-both P Q [] h g = tt
-every-both P Q (o ∷ os) h g = ((h.0, g.0), every-both P Q os h.1 g.1)
+pub every_both : (P Q : Property) (os : List Outcome) → Every P os → Every Q os → Every (λ p rows. P p rows × Q p rows) os
+every_both P Q [] h g = tt
+every_both P Q (o ∷ os) h g = ((h.0, g.0), every_both P Q os h.1 g.1)
 
 -- two readings that agree wherever an outcome can lead agree after it
-pub bind-agree : (P : Property) (os : List Outcome) (f g : Reading) → Every P os
+pub bind_agree : (P : Property) (os : List Outcome) (f g : Reading) → Every P os
     → ((p : ℕ) (rows : Rows) → P p rows → f p rows ≡ g p rows) → bind os f ≡ bind os g
-bind-agree P [] f g h e = refl
-bind-agree P (o ∷ os) f g h e =
-    ap₂ (λ (a b : List Outcome). a ++ b) (e o.end o.rows h.0) (bind-agree P os f g h.1 e)
+bind_agree P [] f g h e = refl
+bind_agree P (o ∷ os) f g h e =
+    ap₂ (λ (a b : List Outcome). a ++ b) (e o.end o.rows h.0) (bind_agree P os f g h.1 e)

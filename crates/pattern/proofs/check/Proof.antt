@@ -3,9 +3,9 @@ use mathlib.Core.Path.{sym, subst, ◌∙◌}
 use native.Mathlib.Omega.{arith}
 use borrow.Author.Rules.{rules}
 use lib.ListN.{length}
-use Rattle.paper.specs.Limits.{patternLevels}
+use Rattle.paper.specs.Limits.{pattern_levels}
 use Rattle.pattern.specs.Walk.{Within}
-use Rattle.pattern.proofs.Answering.{promised, too_long, walk-fault, bytes_after, too_many, taken}
+use Rattle.pattern.proofs.Answering.{promised, too_long, walk_fault, bytes_after, too_many, taken}
 use Rattle.pattern.proofs.check.Statement.{statement}
 use Rattle.pattern.proofs.check.Tie as tie
 
@@ -47,7 +47,7 @@ returns-3 c =
     let the-args = c.before.before.before.before.before.before.args in
     let the-if1 = c.before.before.before.before.if1 in
     let fault = sym the_number.given.1 ∙ the-any-record.ensures.answer in
-    promised (λ i. omega (arith, the-shared-slice-known.given i)) (walk-fault the-args.pattern.now the-if1.false fault)
+    promised (λ i. omega (arith, the-shared-slice-known.given i)) (walk_fault the-args.pattern.now the-if1.false fault)
 
 returns-4 : tie.Need-returns-4
 returns-4 c =
@@ -59,7 +59,7 @@ returns-4 c =
     let the-if2 = c.before.if2 in
     let the-if3 = c.if3 in
     let found = sym the_end.given.1 ∙ the-any-record.ensures.answer in
-    let within = subst (Within (length the-args.pattern.now) patternLevels) the_end.given.1 the-any-record.ensures.within in
+    let within = subst (Within (length the-args.pattern.now) pattern_levels) the_end.given.1 the-any-record.ensures.within in
     promised (λ i. omega (arith, the-shared-slice-known.given i)) (taken the-args.pattern.now the-if1.false found the-if2.false within.0 the-if3.true)
 
 returns-5 : tie.Need-returns-5
@@ -72,10 +72,10 @@ returns-5 c =
     let the-if2 = c.before.if2 in
     let the-if3 = c.if3 in
     let found = sym the_end.given.1 ∙ the-any-record.ensures.answer in
-    let within = subst (Within (length the-args.pattern.now) patternLevels) the_end.given.1 the-any-record.ensures.within in
+    let within = subst (Within (length the-args.pattern.now) pattern_levels) the_end.given.1 the-any-record.ensures.within in
     promised (λ i. omega (arith, the-shared-slice-known.given i)) (too_many the-args.pattern.now the-if1.false found the-if2.false within.0 the-if3.false)
 
-pub check-spec : {M : Type 1} → statement M
-check-spec =
+pub check_spec : {M : Type 1} → statement M
+check_spec =
     tie.close
     (tie.spec returns any-record-requires enum-known-number enum-known-end returns-2 add-t14 returns-3 returns-4 returns-5)

@@ -66,10 +66,10 @@ loop-again c =
       record {
         ready = held.0.ready;
         scratch = record {
-          seen-long = omega (arith, room.seen-long, the_seen.given);
-          taken-long = omega (arith, room.taken-long, the-taken.given);
-          lists-long = omega (arith, room.lists-long, the-lists.given);
-          pending-long = omega (arith, room.pending-long, the-pending.given);
+          seen_long = omega (arith, room.seen_long, the_seen.given);
+          taken_long = omega (arith, room.taken_long, the-taken.given);
+          lists_long = omega (arith, room.lists_long, the-lists.given);
+          pending_long = omega (arith, room.pending_long, the-pending.given);
         };
         forward = the-next-line.ensures.0;
         inside = omega (arith, the-next-line.ensures.1, the-buffer.given);
@@ -103,8 +103,8 @@ same-length-12 c = search rules
 returns-2 : tie.Need-returns-2 invariant-loop decreases-loop
 returns-2 c = search rules
 
-pub all-lines-spec : {M : Type 1} → statement M
-all-lines-spec =
+pub all_lines_spec : {M : Type 1} → statement M
+all_lines_spec =
     tie.close
     (tie.spec
     invariant-loop

@@ -1,7 +1,7 @@
 -- `pick::next_line` meets its contract: the record that was found lies in the window, and the machine is as ready for it as for any line.
 use native.Mathlib.Omega.{arith}
 use lib.ListN.{length-take, length-drop}
-use Rattle.job.proofs.Comes.{told-inside}
+use Rattle.job.proofs.Comes.{told_inside}
 use borrow.Author.Rules.{rules}
 use Rattle.pick.proofs.next_line.Statement.{statement}
 use Rattle.pick.proofs.next_line.Tie as tie
@@ -32,7 +32,7 @@ sub-answer-line c =
     let the-start = c.before.start in
     let the-ready = c.before.before.before.before.before.before.before.ready in
     let the-next-record = c.before.before.before.next-record in
-    let shown = rw the-start.given.1 at (told-inside the-ready.new.0 the-ready.result.start the-ready.result.end 65 the-next-record.ensures) in
+    let shown = rw the-start.given.1 at (told_inside the-ready.new.0 the-ready.result.start the-ready.result.end 65 the-next-record.ensures) in
     omega (arith, shown)
 
 part-answer-line-start : tie.Need-slice-bounds-answer-line-start
@@ -40,7 +40,7 @@ part-answer-line-start c =
     let the-start = c.before.before.start in
     let the-ready = c.before.before.before.before.before.before.before.before.ready in
     let the-next-record = c.before.before.before.before.next-record in
-    let shown = rw the-start.given.1 at (told-inside the-ready.new.0 the-ready.result.start the-ready.result.end 65 the-next-record.ensures) in
+    let shown = rw the-start.given.1 at (told_inside the-ready.new.0 the-ready.result.start the-ready.result.end 65 the-next-record.ensures) in
     omega (arith, shown)
 
 part-answer-line-end : tie.Need-slice-bounds-answer-line-end
@@ -49,7 +49,7 @@ part-answer-line-end c =
     let the-ready = c.before.before.before.before.before.before.before.before.ready in
     let the-next-record = c.before.before.before.before.next-record in
     let the-buffer = c.before.before.before.before.before.before.before.buffer in
-    let shown = rw the-start.given.1 at (told-inside the-ready.new.0 the-ready.result.start the-ready.result.end 65 the-next-record.ensures) in
+    let shown = rw the-start.given.1 at (told_inside the-ready.new.0 the-ready.result.start the-ready.result.end 65 the-next-record.ensures) in
     omega (arith, shown, the-ready.ensures, the-buffer.given)
 
 answer-line-requires : tie.Need-answer-line-requires
@@ -58,7 +58,7 @@ answer-line-requires c κs =
     let the-ready = c.before.before.before.before.before.before.before.before.before.before.before.before.before.before.ready in
     let the-next-record = c.before.before.before.before.before.before.before.before.before.before.next-record in
     let the-pre = c.before.before.before.before.before.before.before.before.before.before.before.before.before.before.before.before.before.before.before.before.before.before.before.before.before.requires in
-    let shown = rw the-start.given.1 at (told-inside the-ready.new.0 the-ready.result.start the-ready.result.end 65 the-next-record.ensures) in
+    let shown = rw the-start.given.1 at (told_inside the-ready.new.0 the-ready.result.start the-ready.result.end 65 the-next-record.ensures) in
     let given = the-pre in
     record { ready = given.ready; short = simp (length-take, length-drop) (omega (arith, shown)); starts = omega arith; scratch = given.scratch }
 
@@ -101,11 +101,11 @@ returns-3 c =
     let the-ready = c.before.before.before.before.before.before.before.before.before.before.before.before.before.before.before.before.before.before.before.before.before.before.before.before.before.before.ready in
     let the-next-record = c.before.before.before.before.before.before.before.before.before.before.before.before.before.before.before.before.before.before.before.before.before.before.next-record in
     let the-behind = c.behind in
-    let shown = rw the-start.given.1 at (told-inside the-ready.new.0 the-ready.result.start the-ready.result.end 65 the-next-record.ensures) in
+    let shown = rw the-start.given.1 at (told_inside the-ready.new.0 the-ready.result.start the-ready.result.end 65 the-next-record.ensures) in
     omega (arith, shown, the-ready.ensures, the-behind.ensures)
 
-pub next-line-spec : {M : Type 1} → statement M
-next-line-spec =
+pub next_line_spec : {M : Type 1} → statement M
+next_line_spec =
     tie.close
     (tie.spec
     ready-requires

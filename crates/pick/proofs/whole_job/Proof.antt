@@ -1,7 +1,7 @@
 -- `pick::whole_job` is safe and ends: the pattern's record lies in the window, and its body fits the place where it is kept.
 use native.Mathlib.Omega.{arith}
 use lib.ListN.{length-take, length-drop}
-use Rattle.job.proofs.Comes.{told-inside}
+use Rattle.job.proofs.Comes.{told_inside}
 use borrow.Author.Rules.{rules}
 use Rattle.pick.proofs.whole_job.Statement.{statement}
 use Rattle.pick.proofs.whole_job.Tie as tie
@@ -40,7 +40,7 @@ sub-keep c =
     let the-start = c.before.before.start in
     let the-ready = c.before.before.before.before.before.before.before.before.ready in
     let the-next-record = c.before.before.before.before.next-record in
-    let shown = rw the-start.given.1 at (told-inside the-ready.new.0 the-ready.result.start the-ready.result.end 64 the-next-record.ensures) in
+    let shown = rw the-start.given.1 at (told_inside the-ready.new.0 the-ready.result.start the-ready.result.end 64 the-next-record.ensures) in
     omega (arith, shown)
 
 part-keep-start : tie.Need-slice-bounds-keep-start
@@ -48,7 +48,7 @@ part-keep-start c =
     let the-start = c.before.before.before.start in
     let the-ready = c.before.before.before.before.before.before.before.before.before.ready in
     let the-next-record = c.before.before.before.before.before.next-record in
-    let shown = rw the-start.given.1 at (told-inside the-ready.new.0 the-ready.result.start the-ready.result.end 64 the-next-record.ensures) in
+    let shown = rw the-start.given.1 at (told_inside the-ready.new.0 the-ready.result.start the-ready.result.end 64 the-next-record.ensures) in
     omega (arith, shown)
 
 part-keep-end : tie.Need-slice-bounds-keep-end
@@ -57,7 +57,7 @@ part-keep-end c =
     let the-ready = c.before.before.before.before.before.before.before.before.before.ready in
     let the-next-record = c.before.before.before.before.before.next-record in
     let the-buffer = c.before.before.before.before.before.before.before.before.buffer in
-    let shown = rw the-start.given.1 at (told-inside the-ready.new.0 the-ready.result.start the-ready.result.end 64 the-next-record.ensures) in
+    let shown = rw the-start.given.1 at (told_inside the-ready.new.0 the-ready.result.start the-ready.result.end 64 the-next-record.ensures) in
     omega (arith, shown, the-ready.ensures, the-buffer.given)
 
 keep-requires : tie.Need-keep-requires
@@ -66,7 +66,7 @@ keep-requires c κs =
     let the-ready = c.before.before.before.before.before.before.before.before.before.before.ready in
     let the-next-record = c.before.before.before.before.before.before.next-record in
     let the-pre = c.before.before.before.before.before.before.before.before.before.before.before.before.before.before.before.before.before.before.before.before.requires in
-    let shown = rw the-start.given.1 at (told-inside the-ready.new.0 the-ready.result.start the-ready.result.end 64 the-next-record.ensures) in
+    let shown = rw the-start.given.1 at (told_inside the-ready.new.0 the-ready.result.start the-ready.result.end 64 the-next-record.ensures) in
     simp (length-take, length-drop) (omega (arith, shown, the-pre.1))
 
 behind-requires : tie.Need-behind-requires
@@ -86,7 +86,7 @@ part-with-pattern-end c =
     let the-keep = c.before.before.before.before.before.keep in
     let the-pre = c.before.before.before.before.before.before.before.before.before.before.before.before.before.before.before.before.before.before.before.before.before.before.before.before.before.before.requires in
     let the-bytes = c.before.before.before.before.bytes in
-    let shown = rw the-start.given.1 at (told-inside the-ready.new.0 the-ready.result.start the-ready.result.end 64 the-next-record.ensures) in
+    let shown = rw the-start.given.1 at (told_inside the-ready.new.0 the-ready.result.start the-ready.result.end 64 the-next-record.ensures) in
     let kept = simp (length-take, length-drop) at the-keep.ensures.0 in
     omega (arith, shown, kept, the-pre.1, the-bytes.given)
 
@@ -98,14 +98,14 @@ with-pattern-requires c κs =
     let the-pre = c.before.before.before.before.before.before.before.before.before.before.before.before.before.before.before.before.before.before.before.before.before.before.before.before.before.before.before.before.before.before.before.before.before.requires in
     let the-behind = c.before.before.before.before.before.before.before.before.before.behind in
     let the-buffer = c.before.before.before.before.before.before.before.before.before.before.before.before.before.before.before.before.before.before.before.before.before.before.buffer in
-    let shown = rw the-start.given.1 at (told-inside the-ready.new.0 the-ready.result.start the-ready.result.end 64 the-next-record.ensures) in
+    let shown = rw the-start.given.1 at (told_inside the-ready.new.0 the-ready.result.start the-ready.result.end 64 the-next-record.ensures) in
     let given = the-pre.0 in
     record {
-      code-long = given.code-long;
-      seen-long = given.seen-long;
-      taken-long = given.taken-long;
-      lists-long = given.lists-long;
-      pending-long = given.pending-long;
+      code_long = given.code_long;
+      seen_long = given.seen_long;
+      taken_long = given.taken_long;
+      lists_long = given.lists_long;
+      pending_long = given.pending_long;
       forward = omega (arith, shown, the-behind.ensures);
       inside = omega (arith, shown, the-ready.ensures, the-buffer.given, the-behind.ensures);
     }
@@ -157,8 +157,8 @@ same-length-12 c = search rules
 returns-3 : tie.Need-returns-3
 returns-3 c = search rules
 
-pub whole-job-spec : {M : Type 1} → statement M
-whole-job-spec =
+pub whole_job_spec : {M : Type 1} → statement M
+whole_job_spec =
     tie.close
     (tie.spec
     ready-requires

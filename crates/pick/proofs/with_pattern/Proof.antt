@@ -1,6 +1,6 @@
 -- `pick::with_pattern` is safe and ends: the machine that was built is ready, and the tables are as long as it needs.
 use native.Mathlib.Omega.{arith}
-use Rattle.machine.proofs.Wiring.{ready-scratch}
+use Rattle.machine.proofs.Wiring.{ready_scratch}
 use borrow.Author.Rules.{rules}
 use Rattle.pick.proofs.with_pattern.Statement.{statement}
 use Rattle.pick.proofs.with_pattern.Tie as tie
@@ -36,7 +36,7 @@ all-lines-requires c κs =
     let given = the-pre in
     record {
       ready = built.0;
-      scratch = ready-scratch built.0 given.seen-long given.taken-long given.lists-long given.pending-long;
+      scratch = ready_scratch built.0 given.seen_long given.taken_long given.lists_long given.pending_long;
       forward = given.forward;
       inside = given.inside;
     }
@@ -79,8 +79,8 @@ same-length-9 c = search rules
 returns-2 : tie.Need-returns-2
 returns-2 c = search rules
 
-pub with-pattern-spec : {M : Type 1} → statement M
-with-pattern-spec =
+pub with_pattern_spec : {M : Type 1} → statement M
+with_pattern_spec =
     tie.close
     (tie.spec
     build-requires

@@ -5,18 +5,18 @@ use native.Mathlib.Omega.{arith}
 use borrow.Author.Rules.{rules}
 use Rattle.places.proofs.build_search.Statement.{statement}
 use Rattle.places.proofs.build_search.Tie as tie
-use Rattle.places.proofs.Walked.{pattern-stands}
-use Rattle.places.proofs.Finished.{whole-places, whole-groups, whole-few, whole-one, search-built}
+use Rattle.places.proofs.Walked.{pattern_stands}
+use Rattle.places.proofs.Finished.{whole_places, whole_groups, whole_few, whole_one, search_built}
 
 add-close : tie.Need-overflow-add-close
 add-close c =
     let the-pre = c.before.before.requires in
-    omega (arith, whole-few the-pre.0)
+    omega (arith, whole_few the-pre.0)
 
 add-second : tie.Need-overflow-add-second
 add-second c =
     let the-pre = c.before.before.requires in
-    omega (arith, whole-few the-pre.0)
+    omega (arith, whole_few the-pre.0)
 
 any-star-requires : tie.Need-any-star-requires
 any-star-requires c κs = search rules
@@ -27,10 +27,10 @@ headed-requires c κs =
     let the-args = c.before.before.before.before.before.before.before.args in
     let the-any-star = c.before.before.before.any-star in
     let a = the-pre.0 in
-    let w = pattern-stands the-args.pattern.now a.tree a.found in
-    let p = a.places-are in (
-      whole-one 5 (5 + the-args.places) w p a.groups-are (omega (arith, w.few-places)) (omega (arith, w.few-places)),
-      (record { no-set = omega arith; a_small = omega arith; n-small = omega arith }, omega (arith, the-any-star.ensures.kept.same_length, the-pre.1)),
+    let w = pattern_stands the-args.pattern.now a.tree a.found in
+    let p = a.places_are in (
+      whole_one 5 (5 + the-args.places) w p a.groups_are (omega (arith, w.few_places)) (omega (arith, w.few_places)),
+      (record { no_set = omega arith; a_small = omega arith; n_small = omega arith }, omega (arith, the-any-star.ensures.kept.same_length, the-pre.1)),
     )
 
 put-requires : tie.Need-put-requires
@@ -39,21 +39,21 @@ put-requires c κs =
     let the-headed = c.before.before.before.headed in
     let the-any-star = c.before.before.before.before.before.before.before.any-star in
     record {
-      room = omega (arith, whole-few the-pre.0, the-headed.ensures.kept.same_length, the-any-star.ensures.kept.same_length, the-pre.1);
-      next_fits = omega (arith, whole-few the-pre.0);
-      a-fits = omega arith;
-      n-fits = omega arith;
+      room = omega (arith, whole_few the-pre.0, the-headed.ensures.kept.same_length, the-any-star.ensures.kept.same_length, the-pre.1);
+      next_fits = omega (arith, whole_few the-pre.0);
+      a_fits = omega arith;
+      n_fits = omega arith;
     }
 
 add-any-star : tie.Need-overflow-add-any-star
 add-any-star c =
     let the-pre = c.before.before.before.before.before.before.before.before.before.before.before.before.before.before.before.requires in
-    omega (arith, whole-few the-pre.0)
+    omega (arith, whole_few the-pre.0)
 
 add-any-star-2 : tie.Need-overflow-add-any-star-2
 add-any-star-2 c =
     let the-pre = c.before.before.before.before.before.before.before.before.before.before.before.before.before.before.before.requires in
-    omega (arith, whole-few the-pre.0)
+    omega (arith, whole_few the-pre.0)
 
 any-star-requires-2 : tie.Need-any-star-requires-2
 any-star-requires-2 c κs =
@@ -61,7 +61,7 @@ any-star-requires-2 c κs =
     let the-put = c.before.before.before.put in
     let the-headed = c.before.before.before.before.before.before.before.headed in
     let the-any-star = c.before.before.before.before.before.before.before.before.before.before.before.any-star in
-    let few = whole-few the-pre.0 in
+    let few = whole_few the-pre.0 in
     record {
       room = omega (arith, few);
       follows = omega (arith, few);
@@ -72,7 +72,7 @@ any-star-requires-2 c κs =
 add-put : tie.Need-overflow-add-put
 add-put c =
     let the-pre = c.before.before.before.before.before.before.before.before.before.before.before.before.before.before.before.before.before.before.before.requires in
-    omega (arith, whole-few the-pre.0)
+    omega (arith, whole_few the-pre.0)
 
 put-requires-2 : tie.Need-put-requires-2
 put-requires-2 c κs =
@@ -81,7 +81,7 @@ put-requires-2 c κs =
     let the-put = c.before.before.before.before.before.before.before.put in
     let the-headed = c.before.before.before.before.before.before.before.before.before.before.before.headed in
     let the-any-star = c.before.before.before.before.before.before.before.before.before.before.before.before.before.before.before.any-star in
-    let few = whole-few the-pre.0 in
+    let few = whole_few the-pre.0 in
     record {
       room = omega (
         arith,
@@ -93,14 +93,14 @@ put-requires-2 c κs =
         the-pre.1,
       );
       next_fits = omega arith;
-      a-fits = omega arith;
-      n-fits = omega arith;
+      a_fits = omega arith;
+      n_fits = omega arith;
     }
 
 add-result : tie.Need-overflow-add-result
 add-result c =
     let the-pre = c.before.before.before.before.before.before.before.before.before.before.before.before.before.before.before.before.before.before.before.before.before.before.requires in
-    omega (arith, whole-few the-pre.0)
+    omega (arith, whole_few the-pre.0)
 
 same_length : tie.Need-same-length
 same_length c =
@@ -122,15 +122,15 @@ returns c =
     let the-any-star2 = c.before.before.before.before.before.before.any-star2 in
     let the-put2 = c.before.before.put2 in
     record {
-      count-is = λ e found. omega (arith, whole-places the-pre.0 found);
+      count_is = λ e found. omega (arith, whole_places the-pre.0 found);
       built = λ e found.
-          let w = pattern-stands the-args.pattern.now e found in
-          search-built w (whole-places the-pre.0 found) (whole-groups the-pre.0 found) the-any-star.ensures the-headed.ensures the-put.ensures
+          let w = pattern_stands the-args.pattern.now e found in
+          search_built w (whole_places the-pre.0 found) (whole_groups the-pre.0 found) the-any-star.ensures the-headed.ensures the-put.ensures
           the-any-star2.ensures the-put2.ensures;
     }
 
-pub build-search-spec : {M : Type 1} → statement M
-build-search-spec =
+pub build_search_spec : {M : Type 1} → statement M
+build_search_spec =
     tie.close
     (tie.spec
     add-close

@@ -40,8 +40,8 @@ same_length c = search rules
 returns : tie.Need-returns invariant-loop decreases-loop
 returns c = search rules
 
-pub coded-all-spec : {M : Type 1} → statement M
-coded-all-spec =
+pub coded_all_spec : {M : Type 1} → statement M
+coded_all_spec =
     tie.close
     (tie.spec
     invariant-loop

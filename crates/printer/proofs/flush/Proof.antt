@@ -35,8 +35,8 @@ returns-4 : tie.Need-returns-4
 unfolding failures
 returns-4 c = search rules
 
-pub flush-spec : {M : Type 1} → statement M
-flush-spec =
+pub flush_spec : {M : Type 1} → statement M
+flush_spec =
     tie.close
     (tie.spec
     returns

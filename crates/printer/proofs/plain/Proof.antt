@@ -43,8 +43,8 @@ returns-3 : tie.Need-returns-3
 unfolding failures
 returns-3 c = search rules
 
-pub plain-spec : {M : Type 1} → statement M
-plain-spec =
+pub plain_spec : {M : Type 1} → statement M
+plain_spec =
     tie.close
     (tie.spec
     slice-write-out

@@ -40,8 +40,8 @@ same_length c = search rules
 returns : tie.Need-returns invariant-loop decreases-loop
 returns c = search rules
 
-pub plain-all-spec : {M : Type 1} → statement M
-plain-all-spec =
+pub plain_all_spec : {M : Type 1} → statement M
+plain_all_spec =
     tie.close
     (tie.spec
     invariant-loop

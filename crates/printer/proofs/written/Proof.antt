@@ -34,8 +34,8 @@ loop-again c = search rules
 returns-2 : tie.Need-returns-2 invariant-loop decreases-loop
 returns-2 c = search rules
 
-pub written-spec : {M : Type 1} → statement M
-written-spec =
+pub written_spec : {M : Type 1} → statement M
+written_spec =
     tie.close
     (tie.spec
     invariant-loop

@@ -1,16 +1,16 @@
 -- `replacer::replace_in` meets its contract: what was measured decides between 13 and writing, and is the answer.
 use native.Mathlib.Omega.{arith}
 use borrow.Author.Rules.{rules}
-use Rattle.machine.proofs.Wiring.{ready-runs}
-use Rattle.replacer.proofs.Calling.{refuses-measured, replaces-measured}
-use Rattle.replacer.proofs.Scanning.{kept-start, kept_on, runs_on}
+use Rattle.machine.proofs.Wiring.{ready_runs}
+use Rattle.replacer.proofs.Calling.{refuses_measured, replaces_measured}
+use Rattle.replacer.proofs.Scanning.{kept_start, kept_on, runs_on}
 use Rattle.replacer.proofs.replace_in.Statement.{statement}
 use Rattle.replacer.proofs.replace_in.Tie as tie
 
 measure-requires : tie.Need-measure-requires
 measure-requires c κs =
     let the-pre = c.before.before.before.before.before.before.before.before.before.before.before.before.before.requires in
-    (the-pre.0.right, ready-runs the-pre.0.ready the-pre.0.short the-pre.1)
+    (the-pre.0.right, ready_runs the-pre.0.ready the-pre.0.short the-pre.1)
 
 same_length : tie.Need-same-length
 same_length c = search rules
@@ -29,16 +29,16 @@ returns c =
     let the-pre = c.before.before.before.before.before.before.before.before.before.before.before.before.before.before.before.before.before.before.before.before.before.before.before.before.requires in
     let the-if1 = c.if1 in
     let the-measure = c.before.before.before.before.before.before.before.before.before.before.measure in
-    refuses-measured the-pre.0 the-measure.ensures (omega (arith, the-if1.true))
+    refuses_measured the-pre.0 the-measure.ensures (omega (arith, the-if1.true))
 
 write-requires : tie.Need-write-requires
 write-requires c κs =
     let the-pre = c.before.before.before.before.before.before.before.before.before.before.before.before.before.before.before.before.before.before.before.before.before.before.before.before.before.before.before.before.before.requires in
     let the-measure = c.before.before.before.before.before.before.before.before.before.before.before.before.before.before.before.measure in
     let the-if1 = c.before.before.before.before.before.if1 in
-    let runs = ready-runs the-pre.0.ready the-pre.0.short the-pre.1 in
+    let runs = ready_runs the-pre.0.ready the-pre.0.short the-pre.1 in
     let lengths = the-measure.auto.1.1.1.1.1.1 in
-    let kept = kept_on kept-start lengths.0 lengths.1.0 lengths.1.1.0 lengths.1.1.1.0 in
+    let kept = kept_on kept_start lengths.0 lengths.1.0 lengths.1.1.0 lengths.1.1.1.0 in
     (the-pre.0.right, runs_on runs (omega arith) kept, omega (arith, the-if1.false, the-measure.ensures.long))
 
 same-length-5 : tie.Need-same-length-5
@@ -62,10 +62,10 @@ returns-2 c =
     let the-if1 = c.before.before.before.before.before.before.before.before.before.before.before.before.before.before.before.before.if1 in
     let the-measure = c.before.before.before.before.before.before.before.before.before.before.before.before.before.before.before.before.before.before.before.before.before.before.before.before.before.before.measure in
     let the-write = c.before.before.before.before.before.before.before.before.before.before.write in
-    replaces-measured the-pre.0 the-measure.ensures (omega (arith, the-if1.false)) the-write.ensures
+    replaces_measured the-pre.0 the-measure.ensures (omega (arith, the-if1.false)) the-write.ensures
 
-pub replace-in-spec : {M : Type 1} → statement M
-replace-in-spec =
+pub replace_in_spec : {M : Type 1} → statement M
+replace_in_spec =
     tie.close
     (tie.spec
     measure-requires

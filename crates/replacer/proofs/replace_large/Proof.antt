@@ -1,7 +1,7 @@
 -- `replacer::replace_large` meets its contract: its scratch is as long as the largest machine needs.
 use mathlib.Core.Path.{refl}
 use borrow.Author.Rules.{rules}
-use Rattle.machine.proofs.Wiring.{ready-scratch}
+use Rattle.machine.proofs.Wiring.{ready_scratch}
 use Rattle.replacer.proofs.replace_large.Statement.{statement}
 use Rattle.replacer.proofs.replace_large.Tie as tie
 
@@ -20,7 +20,7 @@ slice-aggregate-replace-in-4 c = search rules
 replace-in-requires : tie.Need-replace-in-requires
 replace-in-requires c κs =
     let the-pre = c.before.before.before.before.before.before.before.before.before.before.requires in
-    (the-pre, ready-scratch the-pre.ready refl refl refl refl)
+    (the-pre, ready_scratch the-pre.ready refl refl refl refl)
 
 same_length : tie.Need-same-length
 same_length c = search rules
@@ -28,8 +28,8 @@ same_length c = search rules
 returns : tie.Need-returns
 returns c = search rules
 
-pub replace-large-spec : {M : Type 1} → statement M
-replace-large-spec =
+pub replace_large_spec : {M : Type 1} → statement M
+replace_large_spec =
     tie.close
     (tie.spec
     slice-aggregate-replace-in

@@ -1,7 +1,7 @@
 -- `replacer::replace_small` meets its contract: its scratch is as long as a small machine needs.
 use mathlib.Core.Path.{refl}
 use borrow.Author.Rules.{rules}
-use Rattle.machine.proofs.Wiring.{small-scratch}
+use Rattle.machine.proofs.Wiring.{small_scratch}
 use Rattle.replacer.proofs.replace_small.Statement.{statement}
 use Rattle.replacer.proofs.replace_small.Tie as tie
 
@@ -20,7 +20,7 @@ slice-aggregate-replace-in-4 c = search rules
 replace-in-requires : tie.Need-replace-in-requires
 replace-in-requires c κs =
     let the-pre = c.before.before.before.before.before.before.before.before.before.before.requires in
-    (the-pre.0, small-scratch the-pre.1 refl refl refl refl)
+    (the-pre.0, small_scratch the-pre.1 refl refl refl refl)
 
 same_length : tie.Need-same-length
 same_length c = search rules
@@ -28,8 +28,8 @@ same_length c = search rules
 returns : tie.Need-returns
 returns c = search rules
 
-pub replace-small-spec : {M : Type 1} → statement M
-replace-small-spec =
+pub replace_small_spec : {M : Type 1} → statement M
+replace_small_spec =
     tie.close
     (tie.spec
     slice-aggregate-replace-in

@@ -29,8 +29,8 @@ same-length-2 c = search rules
 returns-2 : tie.Need-returns-2
 returns-2 c = search rules
 
-pub replace-within-spec : {M : Type 1} → statement M
-replace-within-spec =
+pub replace_within_spec : {M : Type 1} → statement M
+replace_within_spec =
     tie.close
     (tie.spec
     is-small-requires

@@ -51,8 +51,8 @@ same-length-5 c = search rules
 returns : tie.Need-returns invariant-loop decreases-loop
 returns c = search rules
 
-pub go-through-spec : {M : Type 1} → statement M
-go-through-spec =
+pub go_through_spec : {M : Type 1} → statement M
+go_through_spec =
     tie.close
     (tie.spec
     invariant-loop

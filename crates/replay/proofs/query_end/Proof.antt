@@ -49,8 +49,8 @@ loop-again c = search rules
 returns-2 : tie.Need-returns-2 invariant-loop decreases-loop
 returns-2 c = search rules
 
-pub query-end-spec : {M : Type 1} → statement M
-query-end-spec =
+pub query_end_spec : {M : Type 1} → statement M
+query_end_spec =
     tie.close
     (tie.spec
     invariant-loop

@@ -51,8 +51,8 @@ same-length-6 c = search rules
 returns : tie.Need-returns invariant-loop decreases-loop
 returns c = search rules
 
-pub read-all-spec : {M : Type 1} → statement M
-read-all-spec =
+pub read_all_spec : {M : Type 1} → statement M
+read_all_spec =
     tie.close
     (tie.spec
     invariant-loop

@@ -25,7 +25,7 @@ returns c =
     let the-if1 = c.before.if1 in
     record {
       within = c.before.before.before.before.requires;
-      is-there = sym (lt-ltb the-args.at (length the-args.line.now) (omega (arith, the-if1.true, the-wide.ensures)));
+      is_there = sym (lt-ltb the-args.at (length the-args.line.now) (omega (arith, the-if1.true, the-wide.ensures)));
       is_byte = λ e. ap (λ (i : ℕ). get_or the-args.line.now i 0) the-wide.ensures;
     }
 
@@ -36,11 +36,11 @@ returns-2 c =
     let the-if1 = c.if1 in
     record {
       within = c.before.before.before.requires;
-      is-there = sym (le-ltb the-args.at (length the-args.line.now) (omega (arith, the-if1.false, the-wide.ensures)));
+      is_there = sym (le-ltb the-args.at (length the-args.line.now) (omega (arith, the-if1.false, the-wide.ensures)));
       is_byte = λ e.
           let one : ◌≡◌ {A = ℕ} 0 1 = ap (λ (b : Bool). cond b 1 0) e in
           absurd (omega arith);
     }
 
-pub ahead-at-spec : {M : Type 1} → statement M
-ahead-at-spec = tie.close (tie.spec wide-requires shared-slice-read-t8 returns returns-2)
+pub ahead_at_spec : {M : Type 1} → statement M
+ahead_at_spec = tie.close (tie.spec wide-requires shared-slice-read-t8 returns returns-2)

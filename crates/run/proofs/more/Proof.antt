@@ -17,5 +17,5 @@ returns-2 c =
     let the-if1 = c.if1 in
     sym (ap (λ (d : Bool). not d && ltb the-args.i the-args.number) the-if1.false)
 
-pub more-spec : {M : Type 1} → statement M
-more-spec = tie.close (tie.spec returns returns-2)
+pub more_spec : {M : Type 1} → statement M
+more_spec = tie.close (tie.spec returns returns-2)

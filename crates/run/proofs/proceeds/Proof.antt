@@ -28,5 +28,5 @@ returns-3 c =
     sym (ap (λ (d : Bool). not d && (ltb 0 the-args.number && ltb the-args.at the-args.end)) the-if1.false
     ∙ ap (λ (b : Bool). b && ltb the-args.at the-args.end) (le-ltb 0 the-args.number the-if2.false))
 
-pub proceeds-spec : {M : Type 1} → statement M
-proceeds-spec = tie.close (tie.spec returns returns-2 returns-3)
+pub proceeds_spec : {M : Type 1} → statement M
+proceeds_spec = tie.close (tie.spec returns returns-2 returns-3)

@@ -3,9 +3,9 @@ use Prim.Native.Nat.{◌+◌, ◌-◌, ◌*◌}
 use mathlib.Core.Bool.{cond, not}
 use native.Mathlib.Omega.{arith}
 use borrow.Author.Rules.{rules}
-use Rattle.run.proofs.Lists.{begins-most}
-use Rattle.run.proofs.Walk.{walk-last, walk-less}
-use Rattle.run.proofs.Pace.{Pace, pace-first, pace-room, pace-other, pace-asked, pace-next}
+use Rattle.run.proofs.Lists.{begins_most}
+use Rattle.run.proofs.Walk.{walk_last, walk_less}
+use Rattle.run.proofs.Pace.{Pace, pace_first, pace_room, pace_other, pace_asked, pace_next}
 use Rattle.run.proofs.step.Statement.{statement}
 use Rattle.run.proofs.step.Tie as tie
 use Rattle.run.proofs.step.Reads as reads
@@ -45,7 +45,7 @@ add-end c =
     let the-list-at2 = c.list-at2 in
     let the-pre = c.before.before.before.before.before.before.before.before.before.requires in
     let the-good = c.before.before.before.before.before.before.before.before.before.well-formed in
-    omega (arith, begins-most (not the-args.second) (21 * (the-args.places + 1)), the-list-at2.ensures, the-pre.1.0, the-good.1.1.1.1.1.0.0)
+    omega (arith, begins_most (not the-args.second) (21 * (the-args.places + 1)), the-list-at2.ensures, the-pre.1.0, the-good.1.1.1.1.1.0.0)
 
 ahead-at-requires : tie.Need-ahead-at-requires invariant-loop decreases-loop
 ahead-at-requires c κs =
@@ -56,7 +56,7 @@ loop-holds : tie.Need-loop-init invariant-loop decreases-loop
 loop-holds c =
     let the-args = c.before.before.before.before.before.before.before.before.before.before.args in
     let the-pre = c.before.before.before.before.before.before.before.before.before.before.requires in
-    pace-first the-args.code.now the-args.pattern.now the-args.line.now the-args.places the-args.at
+    pace_first the-args.code.now the-args.pattern.now the-args.line.now the-args.places the-args.at
     the-args.seen.now the-args.taken.now the-args.lists.now the-args.pending.now
     the-args.second the-args.number the-args.made the-pre.0 the-pre.1.0
 
@@ -66,7 +66,7 @@ mul-b c =
     let the-loop-test = c.loop-test in
     let the-list-at = c.before.before.before.before.list_at in
     let the-good = c.before.before.before.before.before.before.before.before.before.before.before.before.well-formed in
-    omega (arith, pace-room the-loop.invariant the-loop-test.true the-list-at.result the-list-at.ensures, the-loop.invariant.lists-same, the-good.1.1.1.1.1.0.0)
+    omega (arith, pace_room the-loop.invariant the-loop-test.true the-list-at.result the-list-at.ensures, the-loop.invariant.lists_same, the-good.1.1.1.1.1.0.0)
 
 add-b : tie.Need-overflow-add-b invariant-loop decreases-loop
 add-b c =
@@ -74,7 +74,7 @@ add-b c =
     let the-loop-test = c.loop-test in
     let the-list-at = c.before.before.before.before.list_at in
     let the-good = c.before.before.before.before.before.before.before.before.before.before.before.before.well-formed in
-    omega (arith, pace-room the-loop.invariant the-loop-test.true the-list-at.result the-list-at.ensures, the-loop.invariant.lists-same, the-good.1.1.1.1.1.0.0)
+    omega (arith, pace_room the-loop.invariant the-loop-test.true the-list-at.result the-list-at.ensures, the-loop.invariant.lists_same, the-good.1.1.1.1.1.0.0)
 
 mul_wide : tie.Need-overflow-mul-wide invariant-loop decreases-loop
 mul_wide c =
@@ -82,14 +82,14 @@ mul_wide c =
     let the-loop-test = c.loop-test in
     let the-list-at = c.before.before.before.before.list_at in
     let the-good = c.before.before.before.before.before.before.before.before.before.before.before.before.well-formed in
-    omega (arith, pace-room the-loop.invariant the-loop-test.true the-list-at.result the-list-at.ensures, the-loop.invariant.lists-same, the-good.1.1.1.1.1.0.0)
+    omega (arith, pace_room the-loop.invariant the-loop-test.true the-list-at.result the-list-at.ensures, the-loop.invariant.lists_same, the-good.1.1.1.1.1.0.0)
 
 slice-read-wide : tie.Need-slice-read-wide invariant-loop decreases-loop
 slice-read-wide c =
     let the-loop = c.before.before.loop in
     let the-loop-test = c.before.loop-test in
     let the-list-at = c.before.before.before.before.before.list_at in
-    omega (arith, pace-room the-loop.invariant the-loop-test.true the-list-at.result the-list-at.ensures)
+    omega (arith, pace_room the-loop.invariant the-loop-test.true the-list-at.result the-list-at.ensures)
 
 wide-requires : tie.Need-wide-requires invariant-loop decreases-loop
 wide-requires c κs = search rules
@@ -99,14 +99,14 @@ load-requires c κs =
     let the-loop = c.before.before.before.before.loop in
     let the-loop-test = c.before.before.before.loop-test in
     let the-list-at = c.before.before.before.before.before.before.before.list_at in
-    pace-room the-loop.invariant the-loop-test.true the-list-at.result the-list-at.ensures
+    pace_room the-loop.invariant the-loop-test.true the-list-at.result the-list-at.ensures
 
 mul-visit : tie.Need-overflow-mul-visit invariant-loop decreases-loop
 mul-visit c =
     let the-loop = c.before.before.before.before.before.before.before.loop in
     let the-list-at2 = c.before.before.before.before.before.before.before.before.before.list-at2 in
     let the-good = c.before.before.before.before.before.before.before.before.before.before.before.before.before.before.before.before.before.before.well-formed in
-    omega (arith, pace-other the-loop.invariant the-list-at2.result the-list-at2.ensures, the-loop.invariant.lists-same, the-good.1.1.1.1.1.0.0)
+    omega (arith, pace_other the-loop.invariant the-list-at2.result the-list-at2.ensures, the-loop.invariant.lists_same, the-good.1.1.1.1.1.0.0)
 
 sub-visit : tie.Need-overflow-sub-visit invariant-loop decreases-loop
 sub-visit c = search rules
@@ -118,7 +118,7 @@ part-visit-end : tie.Need-slice-bounds-visit-end invariant-loop decreases-loop
 part-visit-end c =
     let the-loop = c.before.before.before.before.before.before.before.loop in
     let the-list-at2 = c.before.before.before.before.before.before.before.before.before.list-at2 in
-    pace-other the-loop.invariant the-list-at2.result the-list-at2.ensures
+    pace_other the-loop.invariant the-list-at2.result the-list-at2.ensures
 
 visit-requires : tie.Need-visit-requires invariant-loop decreases-loop
 visit-requires c κs =
@@ -127,7 +127,7 @@ visit-requires c κs =
     let the-list-at = c.before.before.before.before.before.before.before.before.before.before.before.before.list_at in
     let the-wide = c.before.before.before.before.before.before.wide in
     let the-list-at2 = c.before.before.before.before.before.before.before.before.before.before.before.list-at2 in
-    pace-asked the-loop.invariant the-loop-test.true the-list-at.result the-list-at.ensures
+    pace_asked the-loop.invariant the-loop-test.true the-list-at.result the-list-at.ensures
     the-wide.result the-wide.ensures the-list-at2.result the-list-at2.ensures
 
 add-i : tie.Need-overflow-add-i invariant-loop decreases-loop
@@ -137,7 +137,7 @@ add-i c =
     let the-loop-test = early.loop-test in
     let the-list-at = early.before.before.before.before.list_at in
     let the-good = early.before.before.before.before.before.before.before.before.before.before.before.before.well-formed in
-    omega (arith, pace-room the-loop.invariant the-loop-test.true the-list-at.result the-list-at.ensures, the-loop.invariant.lists-same, the-good.1.1.1.1.1.0.0)
+    omega (arith, pace_room the-loop.invariant the-loop-test.true the-list-at.result the-list-at.ensures, the-loop.invariant.lists_same, the-good.1.1.1.1.1.0.0)
 
 more-requires : tie.Need-more-requires invariant-loop decreases-loop
 more-requires c κs = search rules
@@ -148,7 +148,7 @@ loop-less c =
     let the-loop = early.before.loop in
     let the-loop-test = early.loop-test in
     let the-more = c.more in
-    walk-less the-loop.invariant.walk the-loop-test.true the-more.result
+    walk_less the-loop.invariant.walk the-loop-test.true the-more.result
 
 loop-again : tie.Need-loop-preserved invariant-loop decreases-loop
 loop-again c =
@@ -164,7 +164,7 @@ loop-again c =
     let the-lists = c.before.before.before.before.lists in
     let the-args = early.before.before.before.before.before.before.before.before.before.before.before.before.before.before.before.before.args in
     let the-ahead-at = early.before.before.before.before.before.before.ahead-at in
-    pace-next the-loop.invariant the-loop-test.true the-list-at.result the-list-at.ensures
+    pace_next the-loop.invariant the-loop-test.true the-list-at.result the-list-at.ensures
     the-wide.result the-wide.ensures the-list-at2.result the-list-at2.ensures the-load.result the-load.ensures
     the-visit.new.1.1.0 the-visit.new.1.1.1.0 the-visit.new.1.1.1.1.0 the-visit.new.1.1.1.1.1.0
     the-visit.result.count the-visit.result.steps the-visit.result.done the-more.result
@@ -179,23 +179,23 @@ same_length c =
 same-length-2 : tie.Need-same-length-2 invariant-loop decreases-loop
 same-length-2 c =
     let the-loop = c.before.loop in
-    the-loop.invariant.walk.taken-long
+    the-loop.invariant.walk.taken_long
 
 same-length-3 : tie.Need-same-length-3 invariant-loop decreases-loop
 same-length-3 c =
     let the-loop = c.before.loop in
-    the-loop.invariant.lists-same
+    the-loop.invariant.lists_same
 
 same-length-4 : tie.Need-same-length-4 invariant-loop decreases-loop
 same-length-4 c =
     let the-loop = c.before.loop in
-    the-loop.invariant.pending-same
+    the-loop.invariant.pending_same
 
 returns : tie.Need-returns invariant-loop decreases-loop
 returns c =
     let the-loop = c.before.loop in
     let the-loop-test = c.loop-test in
-    walk-last the-loop.invariant.walk the-loop-test.false
+    walk_last the-loop.invariant.walk the-loop-test.false
 
 pub step_spec : {M : Type 1} → statement M
 step_spec =

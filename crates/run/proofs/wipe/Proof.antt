@@ -53,8 +53,8 @@ returns c =
     ∙ (ap (λ (n : ℕ). replicate n 0 ++ drop n the-args.table.now) all
     ∙ (ap (λ (l : List ℕ). replicate (length the-args.table.now) 0 ++ l) (drop-length the-args.table.now) ∙ append-nil (replicate (length the-args.table.now) 0)))
 
-pub wipe-spec : {M : Type 1} → statement M
-wipe-spec =
+pub wipe_spec : {M : Type 1} → statement M
+wipe_spec =
     tie.close
     (tie.spec
     invariant-loop

@@ -1,6 +1,6 @@
 -- The number is the status, and the place stands first.
 use mathlib.Core.Path.{refl}
-use Rattle.telling.proofs.Telling.{one-stored}
+use Rattle.telling.proofs.Telling.{one_stored}
 use borrow.Author.Rules.{rules}
 use Rattle.telling.proofs.refusal.Statement.{statement}
 use Rattle.telling.proofs.refusal.Tie as tie
@@ -20,7 +20,7 @@ returns : tie.Need-returns
 returns c =
     let the-pre = c.requires in
     let the-args = c.args in
-    record { numbered = the-pre.0; status-is = refl; out-is = one-stored the-args.out.now the-args.place the-pre.1 }
+    record { numbered = the-pre.0; status_is = refl; out_is = one_stored the-args.out.now the-args.place the-pre.1 }
 
-pub refusal-spec : {M : Type 1} → statement M
-refusal-spec = tie.close (tie.spec slice-write-out cast-result same_length returns)
+pub refusal_spec : {M : Type 1} → statement M
+refusal_spec = tie.close (tie.spec slice-write-out cast-result same_length returns)

@@ -1,8 +1,8 @@
 -- Each answer is told by its numbers.
-use Rattle.telling.specs.Told.{builtNumbers}
+use Rattle.telling.specs.Told.{built_numbers}
 use mathlib.Core.Path.{sym, ap}
 use native.Mathlib.Omega.{arith}
-use Rattle.telling.proofs.Telling.{told-as, numbered-as}
+use Rattle.telling.proofs.Telling.{told_as, numbered_as}
 use borrow.Author.Rules.{rules}
 use Rattle.telling.proofs.tell_built.Statement.{statement}
 use Rattle.telling.proofs.tell_built.Tie as tie
@@ -18,7 +18,7 @@ refusal-requires : tie.Need-refusal-requires
 refusal-requires c κs =
     let the-answer = c.before.before.answer in
     let the-pre = c.before.before.before.before.before.requires in
-    (numbered-as (sym (ap builtNumbers the-answer.given.1)) the-pre.0, omega arith)
+    (numbered_as (sym (ap built_numbers the-answer.given.1)) the-pre.0, omega arith)
 
 enum-known-answer-2 : tie.Need-enum-known-answer-2
 enum-known-answer-2 c = search rules
@@ -33,7 +33,7 @@ returns : tie.Need-returns
 returns c =
     let the-answer = c.before.before.before.before.before.answer in
     let the-refusal = c.before.before.refusal in
-    told-as (ap builtNumbers the-answer.given.1) the-refusal.ensures
+    told_as (ap built_numbers the-answer.given.1) the-refusal.ensures
 
 same-length-2 : tie.Need-same-length-2
 same-length-2 c = search rules
@@ -42,10 +42,10 @@ returns-2 : tie.Need-returns-2
 returns-2 c =
     let the-answer2 = c.before.before.before.before.before.answer2 in
     let the-three = c.before.before.three in
-    told-as (ap builtNumbers the-answer2.given.1) the-three.ensures
+    told_as (ap built_numbers the-answer2.given.1) the-three.ensures
 
-pub tell-built-spec : {M : Type 1} → statement M
-tell-built-spec =
+pub tell_built_spec : {M : Type 1} → statement M
+tell_built_spec =
     tie.close
     (tie.spec
     enum-known-answer

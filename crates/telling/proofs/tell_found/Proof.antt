@@ -2,8 +2,8 @@
 use Rattle.matcher.specs.Answer as found
 use mathlib.Core.Path.{sym, ap}
 use native.Mathlib.Omega.{arith}
-use Rattle.telling.specs.Told.{foundNumbers}
-use Rattle.telling.proofs.Telling.{told-as, numbered-as}
+use Rattle.telling.specs.Told.{found_numbers}
+use Rattle.telling.proofs.Telling.{told_as, numbered_as}
 use borrow.Author.Rules.{rules}
 use Rattle.telling.proofs.tell_found.Statement.{statement}
 use Rattle.telling.proofs.tell_found.Tie as tie
@@ -19,7 +19,7 @@ refusal-requires : tie.Need-refusal-requires
 refusal-requires c κs =
     let the-answer = c.before.before.answer in
     let the-pre = c.before.before.before.before.before.requires in
-    (numbered-as (sym (ap found.answer_of the-answer.given.1)) the-pre.0, omega arith)
+    (numbered_as (sym (ap found.answer_of the-answer.given.1)) the-pre.0, omega arith)
 
 enum-known-answer-2 : tie.Need-enum-known-answer-2
 enum-known-answer-2 c = search rules
@@ -46,7 +46,7 @@ returns : tie.Need-returns
 returns c =
     let the-answer = c.before.before.before.before.before.answer in
     let the-refusal = c.before.before.refusal in
-    told-as (ap foundNumbers (ap found.answer_of the-answer.given.1)) the-refusal.ensures
+    told_as (ap found_numbers (ap found.answer_of the-answer.given.1)) the-refusal.ensures
 
 same-length-2 : tie.Need-same-length-2
 same-length-2 c = search rules
@@ -55,7 +55,7 @@ returns-2 : tie.Need-returns-2
 returns-2 c =
     let the-answer2 = c.before.before.before.before.before.answer2 in
     let the-two = c.before.before.two in
-    told-as (ap foundNumbers (ap found.answer_of the-answer2.given.1)) the-two.ensures
+    told_as (ap found_numbers (ap found.answer_of the-answer2.given.1)) the-two.ensures
 
 same-length-3 : tie.Need-same-length-3
 same-length-3 c = search rules
@@ -64,10 +64,10 @@ returns-3 : tie.Need-returns-3
 returns-3 c =
     let the-answer3 = c.before.before.before.before.before.answer3 in
     let the-two2 = c.before.before.two2 in
-    told-as (ap foundNumbers (ap found.answer_of the-answer3.given.1)) the-two2.ensures
+    told_as (ap found_numbers (ap found.answer_of the-answer3.given.1)) the-two2.ensures
 
-pub tell-found-spec : {M : Type 1} → statement M
-tell-found-spec =
+pub tell_found_spec : {M : Type 1} → statement M
+tell_found_spec =
     tie.close
     (tie.spec
     enum-known-answer

@@ -2,7 +2,7 @@
 use mathlib.Core.Path.{refl}
 use native.Mathlib.Omega.{arith}
 use lib.ListN.{length-set}
-use Rattle.telling.proofs.Telling.{three-stored}
+use Rattle.telling.proofs.Telling.{three_stored}
 use borrow.Author.Rules.{rules}
 use Rattle.telling.proofs.three.Statement.{statement}
 use Rattle.telling.proofs.three.Tie as tie
@@ -25,8 +25,8 @@ returns : tie.Need-returns
 returns c =
     let the-args = c.args in
     let the-pre = c.requires in
-    record { numbered = tt; status-is = refl; out-is = three-stored the-args.out.now the-args.a the-args.b the-args.c (the-pre) }
+    record { numbered = tt; status_is = refl; out_is = three_stored the-args.out.now the-args.a the-args.b the-args.c (the-pre) }
 
-pub three-spec : {M : Type 1} → statement M
-three-spec =
+pub three_spec : {M : Type 1} → statement M
+three_spec =
     tie.close (tie.spec slice-write-out slice-write-out-2 slice-write-out-3 same_length returns)

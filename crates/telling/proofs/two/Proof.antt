@@ -1,6 +1,6 @@
 -- Both numbers stand first.
 use mathlib.Core.Path.{refl}
-use Rattle.telling.proofs.Telling.{two-stored}
+use Rattle.telling.proofs.Telling.{two_stored}
 use borrow.Author.Rules.{rules}
 use Rattle.telling.proofs.two.Statement.{statement}
 use Rattle.telling.proofs.two.Tie as tie
@@ -20,7 +20,7 @@ returns : tie.Need-returns
 returns c =
     let the-args = c.args in
     let the-pre = c.requires in
-    record { numbered = tt; status-is = refl; out-is = two-stored the-args.out.now the-args.a the-args.b (the-pre) }
+    record { numbered = tt; status_is = refl; out_is = two_stored the-args.out.now the-args.a the-args.b (the-pre) }
 
-pub two-spec : {M : Type 1} → statement M
-two-spec = tie.close (tie.spec slice-write-out slice-write-out-2 same_length returns)
+pub two_spec : {M : Type 1} → statement M
+two_spec = tie.close (tie.spec slice-write-out slice-write-out-2 same_length returns)

@@ -7,7 +7,7 @@ use lib.ListN.{length}
 use borrow.Author.Rules.{rules}
 use Rattle.template.specs.declared.Record.{Record}
 use Rattle.template.specs.Record.{Shows}
-use Rattle.template.proofs.Walks.{Counting, count_long, count-start, count-literal, count-reference, count-wrong, count-end}
+use Rattle.template.proofs.Walks.{Counting, count_long, count_start, count_literal, count_reference, count_wrong, count_end}
 use Rattle.template.proofs.check_template.Statement.{statement}
 use Rattle.template.proofs.check_template.Tie as tie
 use Rattle.template.proofs.check_template.Reads as reads
@@ -49,7 +49,7 @@ returns : tie.Need-returns invariant-loop decreases-loop
 returns c = count_long c.before.before.args.template.now c.if1.true
 
 loop-holds : tie.Need-loop-init invariant-loop decreases-loop
-loop-holds c = count-start c.before.before.args.template.now
+loop-holds c = count_start c.before.before.args.template.now
 
 record-at-requires : tie.Need-record-at-requires invariant-loop decreases-loop
 record-at-requires c κs = search rules
@@ -60,7 +60,7 @@ enum_told c = search rules
 returns-2 : tie.Need-returns-2 invariant-loop decreases-loop
 returns-2 c =
     let k = c.before.before in
-    count-wrong (bytes k) (place k) (count k) k.before.before.loop.invariant k.before.before.before.if1.false k.before.loop-test.true
+    count_wrong (bytes k) (place k) (count k) k.before.before.loop.invariant k.before.before.before.if1.false k.before.loop-test.true
     (subst (Shows (bytes k) (place k)) c.enum_told.given.1 k.record-at.ensures)
 
 enum-known-end : tie.Need-enum-known-end invariant-loop decreases-loop
@@ -75,7 +75,7 @@ loop-less c = omega (arith, shown-literal c)
 loop-again : tie.Need-loop-preserved invariant-loop decreases-loop
 loop-again c =
     let k = c.before.before.before in
-    count-literal (bytes k) (place k) (count k) k.before.before.loop.invariant k.before.loop-test.true c.before.end.given.0.0
+    count_literal (bytes k) (place k) (count k) k.before.before.loop.invariant k.before.loop-test.true c.before.end.given.0.0
     c.before.end.given.0.1.0 (shown-literal c)
 
 enum-known-next : tie.Need-enum-known-next invariant-loop decreases-loop
@@ -90,16 +90,16 @@ loop-less-2 c = omega (arith, shown-reference c)
 loop-again-2 : tie.Need-loop-preserved-2 invariant-loop decreases-loop
 loop-again-2 c =
     let k = c.before.before.before in
-    count-reference (bytes k) (place k) (count k) k.before.before.loop.invariant k.before.loop-test.true c.before.next.given.0.0
+    count_reference (bytes k) (place k) (count k) k.before.before.loop.invariant k.before.loop-test.true c.before.next.given.0.0
     c.before.next.given.0.1.0 (shown-reference c)
 
 returns-3 : tie.Need-returns-3 invariant-loop decreases-loop
 returns-3 c =
-    count-end c.before.before.before.before.args.template.now c.before.loop.at c.before.loop.count c.before.loop.invariant
+    count_end c.before.before.before.before.args.template.now c.before.loop.at c.before.loop.count c.before.loop.invariant
     c.before.before.if1.false c.loop-test.false
 
-pub check-template-spec : {M : Type 1} → statement M
-check-template-spec =
+pub check_template_spec : {M : Type 1} → statement M
+check_template_spec =
     tie.close
     (tie.spec
     invariant-loop

@@ -7,7 +7,7 @@ use lib.ListN.{length}
 use borrow.Author.Rules.{rules}
 use Rattle.template.specs.declared.Record.{Record}
 use Rattle.template.specs.Record.{Shows}
-use Rattle.template.proofs.Walks.{Seeking, seek-start, seek-literal, seek-reference, seek-high, seek-end, seek-wrong}
+use Rattle.template.proofs.Walks.{Seeking, seek_start, seek_literal, seek_reference, seek_high, seek_end, seek_wrong}
 use Rattle.template.proofs.first_too_high.Statement.{statement}
 use Rattle.template.proofs.first_too_high.Tie as tie
 use Rattle.template.proofs.first_too_high.Reads as reads
@@ -46,7 +46,7 @@ shown-reference c =
 -- ---- the needs
 
 loop-holds : tie.Need-loop-init invariant-loop decreases-loop
-loop-holds c = seek-start c.before.args.template.now c.before.args.groups
+loop-holds c = seek_start c.before.args.template.now c.before.args.groups
 
 record-at-requires : tie.Need-record-at-requires invariant-loop decreases-loop
 record-at-requires c κs = search rules
@@ -57,7 +57,7 @@ enum_told c = search rules
 returns : tie.Need-returns invariant-loop decreases-loop
 returns c pieces all =
     let k = c.before.before in
-    absurd (seek-wrong (bytes k) (groups k) (place k) k.before.before.loop.invariant k.before.loop-test.true
+    absurd (seek_wrong (bytes k) (groups k) (place k) k.before.before.loop.invariant k.before.loop-test.true
     (subst (Shows (bytes k) (place k)) c.enum_told.given.1 k.record-at.ensures) pieces all)
 
 enum-known-end : tie.Need-enum-known-end invariant-loop decreases-loop
@@ -69,7 +69,7 @@ loop-less c = omega (arith, shown-literal c)
 loop-again : tie.Need-loop-preserved invariant-loop decreases-loop
 loop-again c =
     let k = c.before.before.before in
-    seek-literal (bytes k) (groups k) (place k) k.before.before.loop.invariant k.before.loop-test.true c.before.end.given.0.0
+    seek_literal (bytes k) (groups k) (place k) k.before.before.loop.invariant k.before.loop-test.true c.before.end.given.0.0
     c.before.end.given.0.1.0 (shown-literal c)
 
 enum-known-row : tie.Need-enum-known-row invariant-loop decreases-loop
@@ -79,7 +79,7 @@ returns-2 : tie.Need-returns-2 invariant-loop decreases-loop
 returns-2 c =
     let t = c.before in
     let k = t.before.before.before in
-    seek-high (bytes k) (groups k) (place k) k.before.before.loop.invariant k.before.loop-test.true t.before.row.given.0.0
+    seek_high (bytes k) (groups k) (place k) k.before.before.loop.invariant k.before.loop-test.true t.before.row.given.0.0
     t.before.row.given.0.1.0 (shown-reference t) c.if1.true
 
 loop-less-2 : tie.Need-loop-smaller-2 invariant-loop decreases-loop
@@ -89,16 +89,16 @@ loop-again-2 : tie.Need-loop-preserved-2 invariant-loop decreases-loop
 loop-again-2 c =
     let t = c.before in
     let k = t.before.before.before in
-    seek-reference (bytes k) (groups k) (place k) k.before.before.loop.invariant k.before.loop-test.true t.before.row.given.0.0
+    seek_reference (bytes k) (groups k) (place k) k.before.before.loop.invariant k.before.loop-test.true t.before.row.given.0.0
     t.before.row.given.0.1.0 (shown-reference t) c.if1.false
 
 returns-3 : tie.Need-returns-3 invariant-loop decreases-loop
 returns-3 c =
     let s = c.before.before.before.args in
-    seek-end s.template.now s.groups c.before.loop.at c.before.loop.invariant c.loop-test.false
+    seek_end s.template.now s.groups c.before.loop.at c.before.loop.invariant c.loop-test.false
 
-pub first-too-high-spec : {M : Type 1} → statement M
-first-too-high-spec =
+pub first_too_high_spec : {M : Type 1} → statement M
+first_too_high_spec =
     tie.close
     (tie.spec
     invariant-loop

@@ -4,11 +4,11 @@ use mathlib.Core.Path.{◌≡◌, sym, ◌∙◌, ap}
 use mathlib.Core.List.{List}
 use borrow.Author.Rules.{rules}
 use Rattle.paper.specs.Refusal.{Checked, accepted}
-use Rattle.paper.specs.PieceCalls.{Source, fromTemplate, fromLine, Span, pieceCall}
+use Rattle.paper.specs.PieceCalls.{Source, fromTemplate, fromLine, Span, piece_call}
 use Rattle.template.specs.declared.Answer.{Answer}
 use Rattle.template.specs.Answer.{answer_of}
-use Rattle.template.proofs.Pieces.{Inside, call-inside}
-use Rattle.template.proofs.Promises.{part-refused, part_of}
+use Rattle.template.proofs.Pieces.{Inside, call_inside}
+use Rattle.template.proofs.Promises.{part_refused, part_of}
 use Rattle.template.proofs.part.Statement.{statement}
 use Rattle.template.proofs.part.Tie as tie
 use Rattle.template.proofs.part.Reads as reads
@@ -20,7 +20,7 @@ use Rattle.template.proofs.piece.Reads as piece-reads
 abbrev due : tie.After-piece → Checked Span
 due c =
     let s = c.before.before.before.before.args in
-    pieceCall s.template.now s.line.now s.table.now s.number
+    piece_call s.template.now s.line.now s.table.now s.number
 
 case : (c : tie.After-piece) (answer : Answer) → c.piece.result ≡ answer → due c ≡ answer_of answer
 case c answer is = sym c.piece.ensures ∙ ap answer_of is
@@ -29,7 +29,7 @@ inside : (c : tie.After-piece) (span : Span) → due c ≡ accepted span
     → Inside c.before.before.before.before.args.template.now c.before.before.before.before.args.line.now span
 inside c span is =
     let s = c.before.before.before.before.args in
-    call-inside s.template.now s.line.now span s.table.now s.number is
+    call_inside s.template.now s.line.now span s.table.now s.number is
 
 in-template : (c : tie.After-known-told)
     → Inside c.before.before.before.before.before.before.before.args.template.now c.before.before.before.before.before.before.before.args.line.now
@@ -87,7 +87,7 @@ returns c =
     let k = c.before.before.before in
     let s = k.before.before.before.before.args in
     let g = c.before.enum_told.given in
-    part-refused (due k) s.template s.line c.result.given g.0.0 g.0.1.0 (case k (Answer.Refused g.0.0 g.0.1.0) g.1)
+    part_refused (due k) s.template s.line c.result.given g.0.0 g.0.1.0 (case k (Answer.Refused g.0.0 g.0.1.0) g.1)
 
 returns-2 : tie.Need-returns-2
 returns-2 c =
@@ -103,8 +103,8 @@ returns-3 c =
     let g = c.before.before.start2.given in
     part_of (due k) s.template s.line c.result3.given.0 fromLine g.0.0 g.0.1.0 (case k (Answer.Line g.0.0 g.0.1.0) g.1)
 
-pub part-spec : {M : Type 1} → statement M
-part-spec =
+pub part_spec : {M : Type 1} → statement M
+part_spec =
     tie.close
     (tie.spec
     piece-requires

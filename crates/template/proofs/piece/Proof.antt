@@ -1,4 +1,4 @@
--- `template::piece` meets its contract: its tests stand in the order of `pieceCall`'s, each with a law of its own.
+-- `template::piece` meets its contract: its tests stand in the order of `piece_call`'s, each with a law of its own.
 use Prim.Native.Nat.{ℕ}
 use native.Mathlib.Omega.{arith}
 use mathlib.Core.Path.{◌≡◌, sym, ◌∙◌, ap}
@@ -6,10 +6,10 @@ use mathlib.Core.List.{List}
 use lib.ListN.{length}
 use borrow.Author.Rules.{rules}
 use Rattle.paper.specs.Refusal.{accepted}
-use Rattle.paper.specs.Template.{Piece, templateOf}
+use Rattle.paper.specs.Template.{Piece, template_of}
 use Rattle.template.specs.Record.{count_of}
-use Rattle.template.proofs.Records.{counted-wrong, counted-right}
-use Rattle.template.proofs.Pieces.{call-9, call-11, call-12, call-16, call-rest}
+use Rattle.template.proofs.Records.{counted_wrong, counted_right}
+use Rattle.template.proofs.Pieces.{call_9, call_11, call_12, call_16, call_rest}
 use Rattle.template.proofs.piece.Statement.{statement}
 use Rattle.template.proofs.piece.Tie as tie
 use Rattle.template.proofs.piece.Reads as reads
@@ -31,9 +31,9 @@ table c = c.before.before.before.before.before.before.before.args.table.now
 abbrev number : tie.After-known-told2 → ℕ
 number c = c.before.before.before.before.before.before.before.args.number
 
-known : (c : tie.After-known-told2) → (pieces : List Piece) × (templateOf (template c) ≡ accepted pieces) × (c.before.count.given.0.0 ≡ length pieces)
+known : (c : tie.After-known-told2) → (pieces : List Piece) × (template_of (template c) ≡ accepted pieces) × (c.before.count.given.0.0 ≡ length pieces)
 known c =
-    counted-right (template c) c.before.count.given.0.0
+    counted_right (template c) c.before.count.given.0.0
     (sym (ap count_of c.before.count.given.1) ∙ c.before.before.before.check-template.ensures)
 
 -- ---- the needs
@@ -50,17 +50,17 @@ enum-known-count c = search rules
 returns : tie.Need-returns
 returns c =
     let k = c.before in
-    call-11 (template k) (line k) (table k) (number k) (known k).0 (known k).1 c.if1.true
+    call_11 (template k) (line k) (table k) (number k) (known k).0 (known k).1 c.if1.true
 
 returns-2 : tie.Need-returns-2
 returns-2 c =
     let k = c.before.before in
-    call-12 (template k) (line k) (table k) (number k) (known k).0 (known k).1 c.before.if1.false c.if2.true
+    call_12 (template k) (line k) (table k) (number k) (known k).0 (known k).1 c.before.if1.false c.if2.true
 
 returns-3 : tie.Need-returns-3
 returns-3 c =
     let k = c.before.before.before in
-    call-16 (template k) (line k) (table k) (number k) (known k).0 (known k).1 c.before.before.if1.false c.before.if2.false
+    call_16 (template k) (line k) (table k) (number k) (known k).0 (known k).1 c.before.before.if1.false c.before.if2.false
     (omega (arith, (known k).2, c.if3.true))
 
 record-part-requires : tie.Need-record-part-requires
@@ -71,18 +71,18 @@ record-part-requires c κs =
 returns-4 : tie.Need-returns-4
 returns-4 c =
     let s = c.before.before.before.before.before.before.before.args in
-    call-9 s.template.now s.line.now s.table.now s.number c.before.place.given.0.0
-    (counted-wrong s.template.now c.before.place.given.0.0
+    call_9 s.template.now s.line.now s.table.now s.number c.before.place.given.0.0
+    (counted_wrong s.template.now c.before.place.given.0.0
     (sym (ap count_of c.before.place.given.1) ∙ c.before.before.before.check-template.ensures))
 
 returns-5 : tie.Need-returns-5
 returns-5 c =
     let k = c.before.before.before.before in
     c.record-part.ensures (known k).0 (known k).1
-    ∙ call-rest (template k) (line k) (table k) (number k) (known k).0 (known k).1 c.before.before.before.if1.false c.before.before.if2.false
+    ∙ call_rest (template k) (line k) (table k) (number k) (known k).0 (known k).1 c.before.before.before.if1.false c.before.before.if2.false
 
-pub piece-spec : {M : Type 1} → statement M
-piece-spec =
+pub piece_spec : {M : Type 1} → statement M
+piece_spec =
     tie.close
     (tie.spec
     check-template-requires

@@ -4,8 +4,8 @@ use mathlib.Core.Path.{ap}
 use Prim.Native.Nat.{ℕ, ◌+◌, ◌≤◌}
 use lib.ListN.{length}
 use borrow.Author.Rules.{rules}
-use Rattle.paper.specs.Check.{bodyStart, bodyEnd}
-use Rattle.template.proofs.Walks.{Reaching, reach-start, reach-body, reach-next, reach-end}
+use Rattle.paper.specs.Check.{body_start, body_end}
+use Rattle.template.proofs.Walks.{Reaching, reach_start, reach_body, reach_next, reach_end}
 use Rattle.template.proofs.place_of.Statement.{statement}
 use Rattle.template.proofs.place_of.Tie as tie
 use Rattle.template.proofs.place_of.Reads as reads
@@ -20,13 +20,13 @@ decreases-loop template number at₀ left₀ at left = left
 
 -- in the loop a whole record stands at the offset
 whole : (c : tie.In-loop invariant-loop decreases-loop)
-    → bodyEnd c.before.before.before.args.template.now c.before.loop.at ≤ length c.before.before.before.args.template.now
+    → body_end c.before.before.before.args.template.now c.before.loop.at ≤ length c.before.before.before.args.template.now
 whole c =
     let s = c.before.before.before in
-    reach-body s.args.template.now s.args.number c.before.loop.at c.before.loop.left c.before.loop.invariant s.requires c.loop-test.true
+    reach_body s.args.template.now s.args.number c.before.loop.at c.before.loop.left c.before.loop.invariant s.requires c.loop-test.true
 
 loop-holds : tie.Need-loop-init invariant-loop decreases-loop
-loop-holds c = reach-start c.before.args.template.now c.before.args.number
+loop-holds c = reach_start c.before.args.template.now c.before.args.number
 
 add_at : tie.Need-overflow-add-at invariant-loop decreases-loop
 add_at c = omega (arith, whole c)
@@ -47,16 +47,16 @@ loop-again : tie.Need-loop-preserved invariant-loop decreases-loop
 loop-again c =
     let s = c.before.before.before.before in
     let l = c.before.before.loop in
-    reach-next s.args.template.now s.args.number l.at l.left l.invariant s.requires c.before.loop-test.true
-    (l.at + 4 + c.number_at.result) (ap (λ (n : ℕ). bodyStart l.at + n) c.number_at.ensures.0)
+    reach_next s.args.template.now s.args.number l.at l.left l.invariant s.requires c.before.loop-test.true
+    (l.at + 4 + c.number_at.result) (ap (λ (n : ℕ). body_start l.at + n) c.number_at.ensures.0)
 
 returns : tie.Need-returns invariant-loop decreases-loop
 returns c =
     let s = c.before.before.before in
-    reach-end s.args.template.now s.args.number c.before.loop.at c.before.loop.left c.before.loop.invariant c.loop-test.false
+    reach_end s.args.template.now s.args.number c.before.loop.at c.before.loop.left c.before.loop.invariant c.loop-test.false
 
-pub place-of-spec : {M : Type 1} → statement M
-place-of-spec =
+pub place_of_spec : {M : Type 1} → statement M
+place_of_spec =
     tie.close
     (tie.spec
     invariant-loop

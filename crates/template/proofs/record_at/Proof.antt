@@ -7,7 +7,7 @@ use lib.ListN.{length}
 use borrow.Author.Rules.{rules}
 use Rattle.records.specs.Header.{Shows as Headed}
 use Rattle.records.specs.declared.Header.{Header}
-use Rattle.template.proofs.Records.{cut, literal-right, literal-empty, no_kind, reference-right, reference-long, reference-high}
+use Rattle.template.proofs.Records.{cut, literal_right, literal_empty, no_kind, reference_right, reference_long, reference_high}
 use Rattle.template.proofs.record_at.Statement.{statement}
 use Rattle.template.proofs.record_at.Tie as tie
 use Rattle.template.proofs.record_at.Reads as reads
@@ -55,12 +55,12 @@ returns c =
 returns-2 : tie.Need-returns-2
 returns-2 c =
     let k = c.before.before.before in
-    literal-right (bytes k) (place k) (kind k) (start k) (end k) (headed k) c.before.if1.true c.if2.true
+    literal_right (bytes k) (place k) (kind k) (start k) (end k) (headed k) c.before.if1.true c.if2.true
 
 returns-3 : tie.Need-returns-3
 returns-3 c =
     let k = c.before.before.before in
-    literal-empty (bytes k) (place k) (kind k) (start k) (end k) (headed k) c.before.if1.true c.if2.false
+    literal_empty (bytes k) (place k) (kind k) (start k) (end k) (headed k) c.before.if1.true c.if2.false
 
 returns-4 : tie.Need-returns-4
 returns-4 c =
@@ -75,7 +75,7 @@ sub-if4 c =
 returns-5 : tie.Need-returns-5
 returns-5 c =
     let k = c.before.before.before.before in
-    reference-long (bytes k) (place k) (kind k) (start k) (end k) (headed k) c.before.if3.false c.if4.true
+    reference_long (bytes k) (place k) (kind k) (start k) (end k) (headed k) c.before.if3.false c.if4.true
 
 number-at-requires : tie.Need-number-at-requires
 number-at-requires c κs =
@@ -85,17 +85,17 @@ number-at-requires c κs =
 returns-6 : tie.Need-returns-6
 returns-6 c =
     let k = c.before.before.before.before.before.before in
-    reference-right (bytes k) (place k) (kind k) (start k) (end k) (headed k) c.before.before.before.if3.false c.before.before.if4.false
+    reference_right (bytes k) (place k) (kind k) (start k) (end k) (headed k) c.before.before.before.if3.false c.before.before.if4.false
     c.before.number_at.result c.before.number_at.ensures.0 c.if5.true
 
 returns-7 : tie.Need-returns-7
 returns-7 c =
     let k = c.before.before.before.before.before.before in
-    reference-high (bytes k) (place k) (kind k) (start k) (end k) (headed k) c.before.before.before.if3.false c.before.before.if4.false
+    reference_high (bytes k) (place k) (kind k) (start k) (end k) (headed k) c.before.before.before.if3.false c.before.before.if4.false
     c.before.number_at.result c.before.number_at.ensures.0 c.if5.false
 
-pub record-at-spec : {M : Type 1} → statement M
-record-at-spec =
+pub record_at_spec : {M : Type 1} → statement M
+record_at_spec =
     tie.close
     (tie.spec
     header-at-requires

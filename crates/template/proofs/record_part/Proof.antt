@@ -5,11 +5,11 @@ use mathlib.Core.List.{List}
 use lib.ListN.{length, drop}
 use borrow.Author.Rules.{rules}
 use Rattle.paper.specs.Refusal.{accepted}
-use Rattle.paper.specs.Template.{Piece, literal, reference, templateOf}
+use Rattle.paper.specs.Template.{Piece, literal, reference, template_of}
 use Rattle.template.specs.declared.Record.{Record}
 use Rattle.template.specs.Record.{Shows, From}
-use Rattle.template.proofs.Records.{numbered-low}
-use Rattle.template.proofs.Pieces.{nth_inside, nth-span, nth_right}
+use Rattle.template.proofs.Records.{numbered_low}
+use Rattle.template.proofs.Pieces.{nth_inside, nth_span, nth_right}
 use Rattle.template.proofs.record_part.Statement.{statement}
 use Rattle.template.proofs.record_part.Tie as tie
 use Rattle.template.proofs.record_part.Reads as reads
@@ -29,8 +29,8 @@ place c = c.place_of.result
 abbrev number : tie.After-place-of → ℕ
 number c = c.before.before.before.args.number
 
-low : (c : tie.After-place-of) (pieces : List Piece) → templateOf (bytes c) ≡ accepted pieces → number c < length pieces
-low c = numbered-low (bytes c) (number c) c.before.before.before.requires.0
+low : (c : tie.After-place-of) (pieces : List Piece) → template_of (bytes c) ≡ accepted pieces → number c < length pieces
+low c = numbered_low (bytes c) (number c) c.before.before.before.requires.0
 
 shown : (c : tie.After-record-at) (r : Record) → c.record-at.result ≡ r → Shows (bytes c.before) (place c.before) r
 shown c r is = subst (Shows (bytes c.before) (place c.before)) is c.record-at.ensures
@@ -71,7 +71,7 @@ returns-2 c pieces is =
     let k = c.before.before.before in
     let g = c.before.start.given in
     let s = k.before.before.before.before.args in
-    nth-span (bytes k.before) (place k.before) (number k.before) pieces (k.before.place_of.ensures pieces is) (low k.before pieces is)
+    nth_span (bytes k.before) (place k.before) (number k.before) pieces (k.before.place_of.ensures pieces is) (low k.before pieces is)
     (literal (place k.before) g.0.0 g.0.1.0) (shown k (Record.Literal g.0.0 g.0.1.0) g.1).0 s.size s.table.now
 
 returns-3 : tie.Need-returns-3
@@ -80,11 +80,11 @@ returns-3 c pieces is =
     let g = c.before.before.row.given in
     let s = k.before.before.before.before.args in
     c.row-part.ensures
-    ∙ nth-span (bytes k.before) (place k.before) (number k.before) pieces (k.before.place_of.ensures pieces is) (low k.before pieces is)
+    ∙ nth_span (bytes k.before) (place k.before) (number k.before) pieces (k.before.place_of.ensures pieces is) (low k.before pieces is)
     (reference (place k.before) g.0.0) (shown k (Record.Reference g.0.0 g.0.1.0) g.1).0 s.size s.table.now
 
-pub record-part-spec : {M : Type 1} → statement M
-record-part-spec =
+pub record_part_spec : {M : Type 1} → statement M
+record_part_spec =
     tie.close
     (tie.spec
     place-of-requires

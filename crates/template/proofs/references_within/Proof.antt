@@ -4,9 +4,9 @@ use mathlib.Core.List.{List}
 use borrow.Author.Rules.{rules}
 use lib.ListN.{length}
 use Rattle.paper.specs.Refusal.{Checked, accepted, ◌>>=◌}
-use Rattle.paper.specs.Template.{Piece, templateOf, within}
+use Rattle.paper.specs.Template.{Piece, template_of, within}
 use Rattle.template.specs.Record.{count_of}
-use Rattle.template.proofs.Records.{counted-wrong, counted-right}
+use Rattle.template.proofs.Records.{counted_wrong, counted_right}
 use Rattle.template.proofs.references_within.Statement.{statement}
 use Rattle.template.proofs.references_within.Tie as tie
 use Rattle.template.proofs.references_within.Reads as reads
@@ -16,9 +16,9 @@ use Rattle.template.proofs.first_too_high.Reads as first-too-high-reads
 
 -- where the count is answered, the template's pieces are known
 known : (c : tie.After-enum-told)
-    → (pieces : List Piece) × (templateOf c.before.before.before.before.args.template.now ≡ accepted pieces) × (c.enum_told.given.0.0 ≡ length pieces)
+    → (pieces : List Piece) × (template_of c.before.before.before.before.args.template.now ≡ accepted pieces) × (c.enum_told.given.0.0 ≡ length pieces)
 known c =
-    counted-right c.before.before.before.before.args.template.now c.enum_told.given.0.0
+    counted_right c.before.before.before.before.args.template.now c.enum_told.given.0.0
     (sym (ap count_of c.enum_told.given.1) ∙ c.before.before.check-template.ensures)
 
 check-template-requires : tie.Need-check-template-requires
@@ -38,7 +38,7 @@ returns c =
     let s = c.before.before.before.before.before.args in
     ap (λ (t : Checked (List Piece)). t >>= λ pieces. within pieces s.groups)
     (sym
-    (counted-wrong s.template.now c.before.place.given.0.0 (sym (ap count_of c.before.place.given.1) ∙ c.before.before.before.check-template.ensures)))
+    (counted_wrong s.template.now c.before.place.given.0.0 (sym (ap count_of c.before.place.given.1) ∙ c.before.before.before.check-template.ensures)))
 
 returns-2 : tie.Need-returns-2
 returns-2 c =
@@ -46,8 +46,8 @@ returns-2 c =
     c.first-too-high.ensures pieces is
     ∙ ap (λ (t : Checked (List Piece)). t >>= λ pieces. within pieces c.before.before.before.before.before.args.groups) (sym is)
 
-pub references-within-spec : {M : Type 1} → statement M
-references-within-spec =
+pub references_within_spec : {M : Type 1} → statement M
+references_within_spec =
     tie.close
     (tie.spec
     check-template-requires

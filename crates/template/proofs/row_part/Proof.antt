@@ -1,4 +1,4 @@
--- `template::row_part` meets its contract: the tests that lead to each answer are those by which `rowSpan` goes.
+-- `template::row_part` meets its contract: the tests that lead to each answer are those by which `row_span` goes.
 use Prim.Native.Nat.{ℕ, ◌+◌, ◌*◌}
 use native.Mathlib.Omega.{arith}
 use mathlib.Core.Path.{◌≡◌, ◌∙◌}
@@ -6,9 +6,9 @@ use mathlib.Core.Bool.{false}
 use mathlib.Core.Logic.{⊎_elim}
 use lib.ListN.{get_or}
 use borrow.Author.Rules.{rules}
-use Rattle.paper.specs.Rows.{rowStart, rowEnd}
-use Rattle.paper.specs.PieceCalls.{isAbsent, rowSpan}
-use Rattle.template.proofs.Pieces.{row-absent, start-there, end-there, row-right, row-long, row-turned, row_read}
+use Rattle.paper.specs.Rows.{row_start, row_end}
+use Rattle.paper.specs.PieceCalls.{is_absent, row_span}
+use Rattle.template.proofs.Pieces.{row_absent, start_there, end_there, row_right, row_long, row_turned, row_read}
 use Rattle.template.proofs.row_part.Statement.{statement}
 use Rattle.template.proofs.row_part.Tie as tie
 use Rattle.template.proofs.row_part.Reads as reads
@@ -23,13 +23,13 @@ abbrev end : tie.Start → ℕ
 end s = get_or s.args.table.now (2 * s.args.row + 1) 0
 
 read : (s : tie.Start)
-    → rowSpan s.args.size (start s) (end s) ≡ rowSpan s.args.size (rowStart s.args.row s.args.table.now) (rowEnd s.args.row s.args.table.now)
+    → row_span s.args.size (start s) (end s) ≡ row_span s.args.size (row_start s.args.row s.args.table.now) (row_end s.args.row s.args.table.now)
 read s = row_read s.args.size s.args.row s.args.table.now s.requires.0 s.requires.1
 
-there : (c : tie.Joined1) → isAbsent (start c.before.before.before) (end c.before.before.before) ≡ false
+there : (c : tie.Joined1) → is_absent (start c.before.before.before) (end c.before.before.before) ≡ false
 there c =
     let s = c.before.before.before in
-    ⊎_elim (λ w. end-there s.args.size (start s) (end s) w.1.left) (λ w. start-there s.args.size (start s) (end s) w.left) c.if1.branch
+    ⊎_elim (λ w. end_there s.args.size (start s) (end s) w.1.left) (λ w. start_there s.args.size (start s) (end s) w.left) c.if1.branch
 
 -- ---- the needs
 
@@ -57,7 +57,7 @@ shared-slice-read-last c = search rules
 returns : tie.Need-returns
 returns c =
     let s = c.before.before.before.before in
-    row-absent s.args.size (start s) (end s) c.before.if1.true c.if2.true ∙ read s
+    row_absent s.args.size (start s) (end s) c.before.if1.true c.if2.true ∙ read s
 
 cast-start : tie.Need-overflow-cast-start
 cast-start c = omega (arith, c.before.shared-slice-known2.given (2 * c.before.before.before.args.row))
@@ -68,20 +68,20 @@ cast-end c = omega (arith, c.before.shared-slice-known2.given (2 * c.before.befo
 returns-2 : tie.Need-returns-2
 returns-2 c =
     let s = c.before.before.before.before.before in
-    row-right s.args.size (start s) (end s) (there c.before.before) c.before.if3.true c.if4.true ∙ read s
+    row_right s.args.size (start s) (end s) (there c.before.before) c.before.if3.true c.if4.true ∙ read s
 
 returns-3 : tie.Need-returns-3
 returns-3 c =
     let s = c.before.before.before.before.before in
-    row-long s.args.size (start s) (end s) (there c.before.before) c.before.if3.true c.if4.false ∙ read s
+    row_long s.args.size (start s) (end s) (there c.before.before) c.before.if3.true c.if4.false ∙ read s
 
 returns-4 : tie.Need-returns-4
 returns-4 c =
     let s = c.before.before.before.before in
-    row-turned s.args.size (start s) (end s) (there c.before) c.if3.false ∙ read s
+    row_turned s.args.size (start s) (end s) (there c.before) c.if3.false ∙ read s
 
-pub row-part-spec : {M : Type 1} → statement M
-row-part-spec =
+pub row_part_spec : {M : Type 1} → statement M
+row_part_spec =
     tie.close
     (tie.spec
     mul-first

@@ -1,6 +1,6 @@
 -- The mark says whether a thread is carried there already.
 use mathlib.Core.Path.{refl}
-use Rattle.threads.proofs.Stores.{carries-new, carries-not}
+use Rattle.threads.proofs.Stores.{carries_new, carries_not}
 use borrow.Author.Rules.{rules}
 use Rattle.threads.proofs.carry.Statement.{statement}
 use Rattle.threads.proofs.carry.Tie as tie
@@ -36,7 +36,7 @@ returns c =
     let the-mark = c.before.before.before.before.before.before.before.mark in
     let the-store = c.before.before.store in
     let the-if1 = c.before.before.before.before.if1 in
-    carries-new the-args.taken.now the-args.list.now the-args.next the-args.stamp the-args.groups the-args.count
+    carries_new the-args.taken.now the-args.list.now the-args.next the-args.stamp the-args.groups the-args.count
     the-mark.new.0 the-store.new.0 the-mark.result the-mark.ensures the-if1.true the-store.ensures
 
 same-length-3 : tie.Need-same-length-3
@@ -47,11 +47,11 @@ returns-2 c =
     let the-args = c.before.before.before.before.before.before.before.args in
     let the-mark = c.before.before.before.mark in
     let the-if1 = c.if1 in
-    carries-not the-args.taken.now the-args.list.now the-args.next the-args.stamp the-args.groups the-args.count
+    carries_not the-args.taken.now the-args.list.now the-args.next the-args.stamp the-args.groups the-args.count
     the-mark.new.0 the-args.list.now the-mark.result the-mark.ensures the-if1.false refl
 
-pub carry-spec : {M : Type 1} → statement M
-carry-spec =
+pub carry_spec : {M : Type 1} → statement M
+carry_spec =
     tie.close
     (tie.spec
     mark-requires

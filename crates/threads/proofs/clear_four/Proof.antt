@@ -1,6 +1,6 @@
 -- Two rows, and then the next two.
 use native.Mathlib.Omega.{arith}
-use Rattle.threads.proofs.Clearing.{clear-then}
+use Rattle.threads.proofs.Clearing.{clear_then}
 use borrow.Author.Rules.{rules}
 use Rattle.threads.proofs.clear_four.Statement.{statement}
 use Rattle.threads.proofs.clear_four.Tie as tie
@@ -22,8 +22,8 @@ returns c =
     let the-args = c.before.before.before.before.args in
     let the-clear-two = c.before.before.clear-two in
     let the-clear-two2 = c.clear-two2 in
-    clear-then the-args.k 2 2 4 the-args.rows.now the-clear-two.ensures the-clear-two2.ensures (omega arith)
+    clear_then the-args.k 2 2 4 the-args.rows.now the-clear-two.ensures the-clear-two2.ensures (omega arith)
 
-pub clear-four-spec : {M : Type 1} → statement M
-clear-four-spec =
+pub clear_four_spec : {M : Type 1} → statement M
+clear_four_spec =
     tie.close (tie.spec clear-two-requires add-clear-two clear-two-requires-2 returns)

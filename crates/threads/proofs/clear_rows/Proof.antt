@@ -1,7 +1,7 @@
 -- None or one, the usual case, first; from eight on twice four rows, and then those that are left.
 use Prim.Native.Nat.{◌-◌}
 use native.Mathlib.Omega.{arith}
-use Rattle.threads.proofs.Clearing.{clear-then}
+use Rattle.threads.proofs.Clearing.{clear_then}
 use borrow.Author.Rules.{rules}
 use Rattle.threads.proofs.clear_rows.Statement.{statement}
 use Rattle.threads.proofs.clear_rows.Tie as tie
@@ -45,11 +45,11 @@ returns-3 c =
     let the-clear-four = c.before.before.before.before.clear-four in
     let the-clear-four2 = c.before.before.clear-four2 in
     let the-clear-under-four = c.clear-under-four in
-    let eight = clear-then the-args.first 4 4 8 the-args.rows.now the-clear-four.ensures the-clear-four2.ensures (omega arith) in
-    clear-then the-args.first 8 (the-args.count - 8) the-args.count the-args.rows.now eight the-clear-under-four.ensures (omega arith)
+    let eight = clear_then the-args.first 4 4 8 the-args.rows.now the-clear-four.ensures the-clear-four2.ensures (omega arith) in
+    clear_then the-args.first 8 (the-args.count - 8) the-args.count the-args.rows.now eight the-clear-under-four.ensures (omega arith)
 
-pub clear-rows-spec : {M : Type 1} → statement M
-clear-rows-spec =
+pub clear_rows_spec : {M : Type 1} → statement M
+clear_rows_spec =
     tie.close
     (tie.spec
     clear-under-two-requires

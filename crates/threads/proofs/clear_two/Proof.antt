@@ -1,6 +1,6 @@
 -- One row, and then the next.
 use native.Mathlib.Omega.{arith}
-use Rattle.threads.proofs.Clearing.{clear-then}
+use Rattle.threads.proofs.Clearing.{clear_then}
 use borrow.Author.Rules.{rules}
 use Rattle.threads.proofs.clear_two.Statement.{statement}
 use Rattle.threads.proofs.clear_two.Tie as tie
@@ -22,7 +22,7 @@ returns c =
     let the-args = c.before.before.before.before.args in
     let the-clear-one = c.before.before.clear-one in
     let the-clear-one2 = c.clear-one2 in
-    clear-then the-args.k 1 1 2 the-args.rows.now the-clear-one.ensures the-clear-one2.ensures (omega arith)
+    clear_then the-args.k 1 1 2 the-args.rows.now the-clear-one.ensures the-clear-one2.ensures (omega arith)
 
-pub clear-two-spec : {M : Type 1} → statement M
-clear-two-spec = tie.close (tie.spec clear-one-requires add-clear-one clear-one-requires-2 returns)
+pub clear_two_spec : {M : Type 1} → statement M
+clear_two_spec = tie.close (tie.spec clear-one-requires add-clear-one clear-one-requires-2 returns)

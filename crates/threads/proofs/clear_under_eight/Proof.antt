@@ -1,7 +1,7 @@
 -- Four rows, and then those that are left.
 use Prim.Native.Nat.{◌-◌}
 use native.Mathlib.Omega.{arith}
-use Rattle.threads.proofs.Clearing.{clear-then}
+use Rattle.threads.proofs.Clearing.{clear_then}
 use borrow.Author.Rules.{rules}
 use Rattle.threads.proofs.clear_under_eight.Statement.{statement}
 use Rattle.threads.proofs.clear_under_eight.Tie as tie
@@ -30,10 +30,10 @@ returns-2 c =
     let the-args = c.before.before.before.before.before.args in
     let the-clear-four = c.before.before.clear-four in
     let the-clear-under-four2 = c.clear-under-four2 in
-    clear-then the-args.k 4 (the-args.n - 4) the-args.n the-args.rows.now the-clear-four.ensures the-clear-under-four2.ensures (omega arith)
+    clear_then the-args.k 4 (the-args.n - 4) the-args.n the-args.rows.now the-clear-four.ensures the-clear-under-four2.ensures (omega arith)
 
-pub clear-under-eight-spec : {M : Type 1} → statement M
-clear-under-eight-spec =
+pub clear_under_eight_spec : {M : Type 1} → statement M
+clear_under_eight_spec =
     tie.close
     (tie.spec
     clear-under-four-requires

@@ -1,7 +1,7 @@
 -- Two rows, and then those that are left.
 use Prim.Native.Nat.{◌-◌}
 use native.Mathlib.Omega.{arith}
-use Rattle.threads.proofs.Clearing.{clear-then}
+use Rattle.threads.proofs.Clearing.{clear_then}
 use borrow.Author.Rules.{rules}
 use Rattle.threads.proofs.clear_under_four.Statement.{statement}
 use Rattle.threads.proofs.clear_under_four.Tie as tie
@@ -30,10 +30,10 @@ returns-2 c =
     let the-args = c.before.before.before.before.before.args in
     let the-clear-two = c.before.before.clear-two in
     let the-clear-under-two2 = c.clear-under-two2 in
-    clear-then the-args.k 2 (the-args.n - 2) the-args.n the-args.rows.now the-clear-two.ensures the-clear-under-two2.ensures (omega arith)
+    clear_then the-args.k 2 (the-args.n - 2) the-args.n the-args.rows.now the-clear-two.ensures the-clear-under-two2.ensures (omega arith)
 
-pub clear-under-four-spec : {M : Type 1} → statement M
-clear-under-four-spec =
+pub clear_under_four_spec : {M : Type 1} → statement M
+clear_under_four_spec =
     tie.close
     (tie.spec
     clear-under-two-requires

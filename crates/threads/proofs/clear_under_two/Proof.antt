@@ -26,5 +26,5 @@ returns-2 c =
     let none : 0 ≡ the-args.n = omega arith in
     ap (λ (n : ℕ). clear the-args.k n the-args.rows.now) none
 
-pub clear-under-two-spec : {M : Type 1} → statement M
-clear-under-two-spec = tie.close (tie.spec clear-one-requires returns returns-2)
+pub clear_under_two_spec : {M : Type 1} → statement M
+clear_under_two_spec = tie.close (tie.spec clear-one-requires returns returns-2)

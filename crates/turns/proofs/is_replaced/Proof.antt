@@ -1,5 +1,5 @@
 -- `turns::is_replaced` meets its contract: its tests are those of the definition.
-use Rattle.turns.proofs.Turning.{first-replaced, empty-replaced, full-replaced}
+use Rattle.turns.proofs.Turning.{first_replaced, empty_replaced, full_replaced}
 use Rattle.turns.proofs.is_replaced.Statement.{statement}
 use Rattle.turns.proofs.is_replaced.Tie as tie
 
@@ -7,21 +7,21 @@ returns : tie.Need-returns
 returns c =
     let the-args = c.before.args in
     let the-if1 = c.if1 in
-    first-replaced the-args.start the-args.end the-args.last the-if1.true
+    first_replaced the-args.start the-args.end the-args.last the-if1.true
 
 returns-2 : tie.Need-returns-2
 returns-2 c =
     let the-args = c.before.before.args in
     let the-if1 = c.before.if1 in
     let the-if2 = c.if2 in
-    empty-replaced the-args.start the-args.end the-args.last the-if1.false the-if2.true
+    empty_replaced the-args.start the-args.end the-args.last the-if1.false the-if2.true
 
 returns-3 : tie.Need-returns-3
 returns-3 c =
     let the-args = c.before.before.args in
     let the-if1 = c.before.if1 in
     let the-if2 = c.if2 in
-    full-replaced the-args.start the-args.end the-args.last the-if1.false the-if2.false
+    full_replaced the-args.start the-args.end the-args.last the-if1.false the-if2.false
 
-pub is-replaced-spec : {M : Type 1} → statement M
-is-replaced-spec = tie.close (tie.spec returns returns-2 returns-3)
+pub is_replaced_spec : {M : Type 1} → statement M
+is_replaced_spec = tie.close (tie.spec returns returns-2 returns-3)

@@ -2,8 +2,8 @@
 use mathlib.Core.Path.{◌≡◌, refl}
 use borrow.Author.Rules.{rules}
 use lib.ListN.{length}
-use Rattle.paper.specs.Limits.{tableNumbers}
-use Rattle.turns.proofs.Turning.{turn-full, turn-empty, turn_last}
+use Rattle.paper.specs.Limits.{table_numbers}
+use Rattle.turns.proofs.Turning.{turn_full, turn_empty, turn_last}
 use Rattle.turns.proofs.match_turn.Statement.{statement}
 use Rattle.turns.proofs.match_turn.Tie as tie
 
@@ -28,8 +28,8 @@ returns c =
     let the-is-replaced = c.before.is-replaced in
     let the-pre = c.before.before.requires in
     let the-if1 = c.if1 in
-    let numbers : length the-args.t3 ≡ tableNumbers = search rules in
-    (turn-full the-args.size the-args.last the-args.t3 numbers the-is-replaced.result the-is-replaced.ensures (the-pre.inside refl) the-pre.short the-if1.true, refl)
+    let numbers : length the-args.t3 ≡ table_numbers = search rules in
+    (turn_full the-args.size the-args.last the-args.t3 numbers the-is-replaced.result the-is-replaced.ensures (the-pre.inside refl) the-pre.short the-if1.true, refl)
 
 add-t17 : tie.Need-overflow-add-t17
 add-t17 c = search rules
@@ -43,8 +43,8 @@ returns-2 c =
     let the-is-replaced = c.before.before.is-replaced in
     let the-if1 = c.before.if1 in
     let the-if2 = c.if2 in
-    let numbers : length the-args.t3 ≡ tableNumbers = search rules in
-    (turn-empty the-args.size the-args.last the-args.t3 numbers the-is-replaced.result the-is-replaced.ensures the-if1.false the-if2.true, refl)
+    let numbers : length the-args.t3 ≡ table_numbers = search rules in
+    (turn_empty the-args.size the-args.last the-args.t3 numbers the-is-replaced.result the-is-replaced.ensures the-if1.false the-if2.true, refl)
 
 returns-3 : tie.Need-returns-3
 returns-3 c =
@@ -52,11 +52,11 @@ returns-3 c =
     let the-is-replaced = c.before.before.is-replaced in
     let the-if1 = c.before.if1 in
     let the-if2 = c.if2 in
-    let numbers : length the-args.t3 ≡ tableNumbers = search rules in
+    let numbers : length the-args.t3 ≡ table_numbers = search rules in
     (turn_last the-args.size the-args.last the-args.t3 numbers the-is-replaced.result the-is-replaced.ensures the-if1.false the-if2.false, refl)
 
-pub match-turn-spec : {M : Type 1} → statement M
-match-turn-spec =
+pub match_turn_spec : {M : Type 1} → statement M
+match_turn_spec =
     tie.close
     (tie.spec
     array-read-start

@@ -38,5 +38,5 @@ returns-2 c =
     let puts = put_in the-args.template.now the-args.line.now the-args.rows (pieces_of the-args.template.now) in
     subst (λ (b : Bool). Appended the-args.buffer.now the-args.buffer.now the-args.at (cond b puts []) the-args.at) (sym the-if1.false) (nothing_written the-args.buffer.now the-args.at)
 
-pub put-where-spec : {M : Type 1} → statement M
-put-where-spec = tie.close (tie.spec put-requires same_length returns returns-2)
+pub put_where_spec : {M : Type 1} → statement M
+put_where_spec = tie.close (tie.spec put-requires same_length returns returns-2)

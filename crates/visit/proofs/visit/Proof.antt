@@ -3,8 +3,8 @@ use native.Mathlib.Omega.{arith}
 use Prim.Native.Nat.{◌+◌}
 use mathlib.Core.Bool.{false, not}
 use borrow.Author.Rules.{rules}
-use Rattle.visit.proofs.Loop.{Turn, turns, turn-first, turn-cell, turn-floor, turn-numbers, turn_last, turn_end, less-end, turn-branch, turn-resume, less-resume}
-use Rattle.visit.proofs.Loop.{turn-seen, less-seen, turn-countable, less-new, lead-slots, turn-lead, settle-asked, turn-settle, fork-asked, turn-fork}
+use Rattle.visit.proofs.Loop.{Turn, turns, turn_first, turn_cell, turn_floor, turn_numbers, turn_last, turn_end, less_end, turn_branch, turn_resume, less_resume}
+use Rattle.visit.proofs.Loop.{turn_seen, less_seen, turn_countable, less_new, lead_slots, turn_lead, settle_asked, turn_settle, fork_asked, turn_fork}
 use Rattle.visit.proofs.visit.Statement.{statement}
 use Rattle.visit.proofs.visit.Tie as tie
 use Rattle.visit.proofs.visit.Reads as reads
@@ -32,14 +32,14 @@ loop-holds : tie.Need-loop-init invariant-loop decreases-loop
 loop-holds c =
     let the-args = c.before.before.before.before.before.before.args in
     let the-pre = c.before.before.before.before.before.before.requires in
-    turn-first the-args.code.now the-args.pattern.now the-args.ahead.there the-args.ahead.byte the-args.places the-args.at
+    turn_first the-args.code.now the-args.pattern.now the-args.ahead.there the-args.ahead.byte the-args.places the-args.at
     the-args.seen.now the-args.taken.now the-args.list.now the-args.pending.now
     the-args.start the-args.groups the-args.carried the-args.made (search rules) the-pre
 
 add-mark : tie.Need-overflow-add-mark invariant-loop decreases-loop
 add-mark c =
     let the-loop = c.before.before.before.loop in
-    omega (arith, turn-cell the-loop.invariant, the-loop.invariant.long, the-loop.invariant.asked.cells)
+    omega (arith, turn_cell the-loop.invariant, the-loop.invariant.long, the-loop.invariant.asked.cells)
 
 add-mark-2 : tie.Need-overflow-add-mark-2 invariant-loop decreases-loop
 add-mark-2 c =
@@ -49,7 +49,7 @@ add-mark-2 c =
 mark-requires : tie.Need-mark-requires invariant-loop decreases-loop
 mark-requires c κs =
     let the-loop = c.before.before.before.loop in
-    turn-cell the-loop.invariant
+    turn_cell the-loop.invariant
 
 add-steps : tie.Need-overflow-add-steps invariant-loop decreases-loop
 add-steps c =
@@ -58,12 +58,12 @@ add-steps c =
     let the-loop-test = c.before.before.before.before.before.before.loop-test in
     let the-mark = c.before.before.before.mark in
     let the-if2 = c.if2 in
-    omega (arith, turn-countable the-loop.invariant the-if1.true the-loop-test.true the-mark.new.0 the-mark.result the-mark.ensures the-if2.true)
+    omega (arith, turn_countable the-loop.invariant the-if1.true the-loop-test.true the-mark.new.0 the-mark.result the-mark.ensures the-if2.true)
 
 numbers-of-requires : tie.Need-numbers-of-requires invariant-loop decreases-loop
 numbers-of-requires c κs =
     let the-loop = c.before.before.before.before.before.before.before.loop in
-    turn-numbers the-loop.invariant
+    turn_numbers the-loop.invariant
 
 wait-requires : tie.Need-wait-requires invariant-loop decreases-loop
 wait-requires c κs =
@@ -74,7 +74,7 @@ wait-requires c κs =
     let the-if2 = c.before.before.before.if2 in
     let the-numbers-of = c.before.before.Numbers-of in
     let the-if3 = c.before.if3 in
-    fork-asked the-loop.invariant the-if1.true the-loop-test.true the-mark.new.0 the-mark.result the-mark.ensures the-if2.true
+    fork_asked the-loop.invariant the-if1.true the-loop-test.true the-mark.new.0 the-mark.result the-mark.ensures the-if2.true
     the-numbers-of.result.kind the-numbers-of.result.next the-numbers-of.result.a the-numbers-of.result.n the-numbers-of.ensures the-if3.true
 
 add-waiting : tie.Need-overflow-add-waiting invariant-loop decreases-loop
@@ -89,7 +89,7 @@ add-waiting c =
     let the-if3 = c.before.before.before.before.if3 in
     let the-good = early.before.before.before.before.before.before.before.before.before.well-formed in
     let asked =
-    fork-asked the-loop.invariant the-if1.true the-loop-test.true the-mark.new.0 the-mark.result the-mark.ensures the-if2.true
+    fork_asked the-loop.invariant the-if1.true the-loop-test.true the-mark.new.0 the-mark.result the-mark.ensures the-if2.true
     the-numbers-of.result.kind the-numbers-of.result.next the-numbers-of.result.a the-numbers-of.result.n the-numbers-of.ensures the-if3.true in
     omega (arith, asked.0, the-good.1.1.1.1.1.0.0)
 
@@ -100,7 +100,7 @@ loop-less c =
     let the-loop-test = c.before.before.before.before.before.before.before.before.before.before.before.before.loop-test in
     let the-mark = c.before.before.before.before.before.before.before.before.before.mark in
     let the-if2 = c.before.before.before.before.before.before.if2 in
-    less-new the-loop.invariant the-if1.true the-loop-test.true the-mark.new.0 the-mark.result the-mark.ensures the-if2.true
+    less_new the-loop.invariant the-if1.true the-loop-test.true the-mark.new.0 the-mark.result the-mark.ensures the-if2.true
     (the-loop.waiting + 1) the-loop.alive the-loop.goes (omega arith)
 
 loop-again : tie.Need-loop-preserved invariant-loop decreases-loop
@@ -113,7 +113,7 @@ loop-again c =
     let the-numbers-of = c.before.before.before.before.before.Numbers-of in
     let the-if3 = c.before.before.before.before.if3 in
     let the-wait = c.before.before.wait in
-    turn-fork the-loop.invariant the-if1.true the-loop-test.true the-mark.new.0 the-mark.result the-mark.ensures the-if2.true
+    turn_fork the-loop.invariant the-if1.true the-loop-test.true the-mark.new.0 the-mark.result the-mark.ensures the-if2.true
     the-numbers-of.result.kind the-numbers-of.result.next the-numbers-of.result.a the-numbers-of.result.n the-numbers-of.ensures
     the-if3.true the-wait.new.0 the-wait.ensures
 
@@ -128,9 +128,9 @@ lead-requires c κs =
     let the-if3 = c.before.before.if3 in
     let the-if4 = c.before.if4 in
     let slots =
-    lead-slots the-loop.invariant the-if1.true the-loop-test.true the-mark.new.0 the-mark.result the-mark.ensures the-if2.true
+    lead_slots the-loop.invariant the-if1.true the-loop-test.true the-mark.new.0 the-mark.result the-mark.ensures the-if2.true
     the-numbers-of.result.kind the-numbers-of.result.next the-numbers-of.result.a the-numbers-of.result.n the-numbers-of.ensures in
-    (omega (arith, the-if3.false), the-if4.true, turn-floor the-loop.invariant, omega (arith, the-loop.invariant.inside), slots)
+    (omega (arith, the-if3.false), the-if4.true, turn_floor the-loop.invariant, omega (arith, the-loop.invariant.inside), slots)
 
 loop-less-2 : tie.Need-loop-smaller-2 invariant-loop decreases-loop
 loop-less-2 c =
@@ -140,7 +140,7 @@ loop-less-2 c =
     let the-mark = c.before.before.before.before.before.before.before.before.mark in
     let the-if2 = c.before.before.before.before.before.if2 in
     let the-lead = c.lead in
-    less-new the-loop.invariant the-if1.true the-loop-test.true the-mark.new.0 the-mark.result the-mark.ensures the-if2.true
+    less_new the-loop.invariant the-if1.true the-loop-test.true the-mark.new.0 the-mark.result the-mark.ensures the-if2.true
     the-loop.waiting the-lead.result.goes the-loop.goes (omega arith)
 
 loop-again-2 : tie.Need-loop-preserved-2 invariant-loop decreases-loop
@@ -154,7 +154,7 @@ loop-again-2 c =
     let the-if3 = c.before.before.before.if3 in
     let the-if4 = c.before.before.if4 in
     let the-lead = c.lead in
-    turn-lead the-loop.invariant the-if1.true the-loop-test.true the-mark.new.0 the-mark.result the-mark.ensures the-if2.true
+    turn_lead the-loop.invariant the-if1.true the-loop-test.true the-mark.new.0 the-mark.result the-mark.ensures the-if2.true
     the-numbers-of.result.kind the-numbers-of.result.next the-numbers-of.result.a the-numbers-of.result.n the-numbers-of.ensures
     (omega (arith, the-if3.false)) the-if4.true the-lead.result.goes the-lead.result.floor the-lead.new.1.1.1.1.1.1.0 the-lead.ensures
 
@@ -167,7 +167,7 @@ settle-requires c κs =
     let the-if2 = c.before.before.before.before.before.if2 in
     let the-numbers-of = c.before.before.before.before.Numbers-of in
     let the-if4 = c.before.before.if4 in
-    settle-asked the-loop.invariant the-if1.true the-loop-test.true the-mark.new.0 the-mark.result the-mark.ensures the-if2.true
+    settle_asked the-loop.invariant the-if1.true the-loop-test.true the-mark.new.0 the-mark.result the-mark.ensures the-if2.true
     the-numbers-of.result.kind the-numbers-of.result.next the-numbers-of.result.a the-numbers-of.result.n the-numbers-of.ensures the-if4.false
 
 loop-less-3 : tie.Need-loop-smaller-3 invariant-loop decreases-loop
@@ -178,7 +178,7 @@ loop-less-3 c =
     let the-mark = c.before.before.before.before.before.before.before.before.before.before.before.before.before.mark in
     let the-if2 = c.before.before.before.before.before.before.before.before.before.before.if2 in
     let the-settle = c.before.before.before.before.settle in
-    less-new the-loop.invariant the-if1.true the-loop-test.true the-mark.new.0 the-mark.result the-mark.ensures the-if2.true
+    less_new the-loop.invariant the-if1.true the-loop-test.true the-mark.new.0 the-mark.result the-mark.ensures the-if2.true
     the-loop.waiting false (not the-settle.result.done) (omega arith)
 
 loop-again-3 : tie.Need-loop-preserved-3 invariant-loop decreases-loop
@@ -190,7 +190,7 @@ loop-again-3 c =
     let the-if2 = c.before.before.before.before.before.before.before.before.before.before.if2 in
     let the-numbers-of = c.before.before.before.before.before.before.before.before.before.Numbers-of in
     let the-settle = c.before.before.before.before.settle in
-    turn-settle the-loop.invariant the-if1.true the-loop-test.true the-mark.new.0 the-mark.result the-mark.ensures the-if2.true
+    turn_settle the-loop.invariant the-if1.true the-loop-test.true the-mark.new.0 the-mark.result the-mark.ensures the-if2.true
     the-numbers-of.result.kind the-numbers-of.result.next the-numbers-of.result.a the-numbers-of.result.n the-numbers-of.ensures
     the-settle.new.1.0 the-settle.new.1.1.0 the-settle.result.count the-settle.result.done
     the-settle.auto.1.0 the-settle.auto.1.1.0 the-settle.ensures
@@ -202,7 +202,7 @@ loop-less-4 c =
     let the-loop-test = c.before.before.before.before.before.before.loop-test in
     let the-mark = c.before.before.before.mark in
     let the-if2 = c.if2 in
-    less-seen the-loop.invariant the-if1.true the-loop-test.true the-mark.new.0 the-mark.result the-mark.ensures the-if2.false
+    less_seen the-loop.invariant the-if1.true the-loop-test.true the-mark.new.0 the-mark.result the-mark.ensures the-if2.false
 
 loop-again-4 : tie.Need-loop-preserved-4 invariant-loop decreases-loop
 loop-again-4 c =
@@ -211,7 +211,7 @@ loop-again-4 c =
     let the-loop-test = c.before.before.before.before.before.before.loop-test in
     let the-mark = c.before.before.before.mark in
     let the-if2 = c.if2 in
-    turn-seen the-loop.invariant the-if1.true the-loop-test.true the-mark.new.0 the-mark.result the-mark.ensures the-if2.false
+    turn_seen the-loop.invariant the-if1.true the-loop-test.true the-mark.new.0 the-mark.result the-mark.ensures the-if2.false
 
 sub-waiting : tie.Need-overflow-sub-waiting invariant-loop decreases-loop
 sub-waiting c = search rules
@@ -221,20 +221,20 @@ mul-b c =
     let the-loop = c.before.before.before.loop in
     let the-if5 = c.if5 in
     let the-good = c.before.before.before.before.before.before.before.before.before.before.well-formed in
-    omega (arith, turn-branch the-loop.invariant the-if5.true, the-good.1.1.1.1.1.0.0)
+    omega (arith, turn_branch the-loop.invariant the-if5.true, the-good.1.1.1.1.1.0.0)
 
 mul_wide : tie.Need-overflow-mul-wide invariant-loop decreases-loop
 mul_wide c =
     let the-loop = c.before.before.before.loop in
     let the-if5 = c.if5 in
     let the-good = c.before.before.before.before.before.before.before.before.before.before.well-formed in
-    omega (arith, turn-branch the-loop.invariant the-if5.true, the-good.1.1.1.1.1.0.0)
+    omega (arith, turn_branch the-loop.invariant the-if5.true, the-good.1.1.1.1.1.0.0)
 
 slice-read-wide : tie.Need-slice-read-wide invariant-loop decreases-loop
 slice-read-wide c =
     let the-loop = c.before.before.before.before.loop in
     let the-if5 = c.before.if5 in
-    omega (arith, turn-branch the-loop.invariant the-if5.true)
+    omega (arith, turn_branch the-loop.invariant the-if5.true)
 
 wide-requires : tie.Need-wide-requires invariant-loop decreases-loop
 wide-requires c κs = search rules
@@ -244,20 +244,20 @@ add_wide c =
     let the-loop = c.before.before.before.before.before.loop in
     let the-if5 = c.before.before.if5 in
     let the-good = c.before.before.before.before.before.before.before.before.before.before.before.before.well-formed in
-    omega (arith, turn-branch the-loop.invariant the-if5.true, the-good.1.1.1.1.1.0.0)
+    omega (arith, turn_branch the-loop.invariant the-if5.true, the-good.1.1.1.1.1.0.0)
 
 mul-wide-2 : tie.Need-overflow-mul-wide-2 invariant-loop decreases-loop
 mul-wide-2 c =
     let the-loop = c.before.before.before.before.before.loop in
     let the-if5 = c.before.before.if5 in
     let the-good = c.before.before.before.before.before.before.before.before.before.before.before.before.well-formed in
-    omega (arith, turn-branch the-loop.invariant the-if5.true, the-good.1.1.1.1.1.0.0)
+    omega (arith, turn_branch the-loop.invariant the-if5.true, the-good.1.1.1.1.1.0.0)
 
 slice-read-wide-2 : tie.Need-slice-read-wide-2 invariant-loop decreases-loop
 slice-read-wide-2 c =
     let the-loop = c.before.before.before.before.before.before.loop in
     let the-if5 = c.before.before.before.if5 in
-    omega (arith, turn-branch the-loop.invariant the-if5.true)
+    omega (arith, turn_branch the-loop.invariant the-if5.true)
 
 wide-requires-2 : tie.Need-wide-requires-2 invariant-loop decreases-loop
 wide-requires-2 c κs = search rules
@@ -267,20 +267,20 @@ add-load c =
     let the-loop = c.before.before.before.before.before.before.before.before.loop in
     let the-if5 = c.before.before.before.before.before.if5 in
     let the-good = c.before.before.before.before.before.before.before.before.before.before.before.before.before.before.before.well-formed in
-    omega (arith, turn-branch the-loop.invariant the-if5.true, the-good.1.1.1.1.1.0.0)
+    omega (arith, turn_branch the-loop.invariant the-if5.true, the-good.1.1.1.1.1.0.0)
 
 load-requires : tie.Need-load-requires invariant-loop decreases-loop
 load-requires c κs =
     let the-loop = c.before.before.before.before.before.before.before.before.loop in
     let the-if5 = c.before.before.before.before.before.if5 in
-    omega (arith, turn-branch the-loop.invariant the-if5.true)
+    omega (arith, turn_branch the-loop.invariant the-if5.true)
 
 loop-less-5 : tie.Need-loop-smaller-5 invariant-loop decreases-loop
 loop-less-5 c =
     let the-loop = c.before.before.before.before.before.before.before.before.before.loop in
     let the-if5 = c.before.before.before.before.before.before.if5 in
     let the-if1 = c.before.before.before.before.before.before.before.if1 in
-    less-resume the-loop.invariant the-if5.true the-if1.false
+    less_resume the-loop.invariant the-if5.true the-if1.false
 
 loop-again-5 : tie.Need-loop-preserved-5 invariant-loop decreases-loop
 loop-again-5 c =
@@ -291,14 +291,14 @@ loop-again-5 c =
     let the-wide2 = c.before.before.wide2 in
     let the-wide = c.before.before.before.before.wide in
     let the-load = c.load in
-    turn-resume the-loop.invariant the-if5.true the-if1.false the-loop-test.true
+    turn_resume the-loop.invariant the-if5.true the-if1.false the-loop-test.true
     the-wide2.result the-wide.result the-load.result the-wide2.ensures the-wide.ensures the-load.ensures
 
 loop-less-6 : tie.Need-loop-smaller-6 invariant-loop decreases-loop
 loop-less-6 c =
     let the-loop = c.before.before.before.loop in
     let the-loop-test = c.before.before.loop-test in
-    less-end the-loop.invariant the-loop-test.true
+    less_end the-loop.invariant the-loop-test.true
 
 loop-again-6 : tie.Need-loop-preserved-6 invariant-loop decreases-loop
 loop-again-6 c =
@@ -316,17 +316,17 @@ same_length c =
 same-length-2 : tie.Need-same-length-2 invariant-loop decreases-loop
 same-length-2 c =
     let the-loop = c.before.loop in
-    the-loop.invariant.taken-long
+    the-loop.invariant.taken_long
 
 same-length-3 : tie.Need-same-length-3 invariant-loop decreases-loop
 same-length-3 c =
     let the-loop = c.before.loop in
-    the-loop.invariant.list-long
+    the-loop.invariant.list_long
 
 same-length-4 : tie.Need-same-length-4 invariant-loop decreases-loop
 same-length-4 c =
     let the-loop = c.before.loop in
-    the-loop.invariant.pending-long
+    the-loop.invariant.pending_long
 
 returns : tie.Need-returns invariant-loop decreases-loop
 returns c =
@@ -334,8 +334,8 @@ returns c =
     let the-loop-test = c.loop-test in
     turn_last the-loop.invariant the-loop-test.false
 
-pub visit-spec : {M : Type 1} → statement M
-visit-spec =
+pub visit_spec : {M : Type 1} → statement M
+visit_spec =
     tie.close
     (tie.spec
     invariant-loop

@@ -2,7 +2,7 @@
 use mathlib.Core.Path.{refl}
 use lib.Dec.{ltb}
 use native.Mathlib.Omega.{arith}
-use Rattle.exports.proofs.Refusals.{built-numbered}
+use Rattle.exports.proofs.Refusals.{built_numbered}
 use borrow.Author.Rules.{rules}
 use Rattle.exports.proofs.built.toj_build.Statement.{statement}
 use Rattle.exports.proofs.built.toj_build.Tie as tie
@@ -24,7 +24,7 @@ tell-built-requires : tie.Need-tell-built-requires
 tell-built-requires c κs =
     let the-args = c.before.before.before.before.before.before.before.before.before.before.args in
     let the-build-in = c.before.before.before.build-in in
-    (built-numbered the-args.pattern.now (ltb 0 the-args.search) the-args.machine.now the-build-in.new.1.1.0 the-build-in.result the-build-in.ensures, omega arith)
+    (built_numbered the-args.pattern.now (ltb 0 the-args.search) the-args.machine.now the-build-in.new.1.1.0 the-build-in.result the-build-in.ensures, omega arith)
 
 same_length : tie.Need-same-length
 same_length c = search rules
@@ -38,8 +38,8 @@ returns-3 c =
     let the-tell-built = c.before.before.tell-built in
     record { short = λ h. absurd (omega arith); small = λ h. absurd (omega arith); told = λ h k. (the-build-in.result, the-build-in.ensures, the-tell-built.ensures) }
 
-pub toj-build-spec : {M : Type 1} → statement M
-toj-build-spec =
+pub toj_build_spec : {M : Type 1} → statement M
+toj_build_spec =
     tie.close
     (tie.spec
     returns

@@ -1,8 +1,8 @@
 -- Too short, or what the run promised, told.
 use mathlib.Core.Path.{refl}
 use native.Mathlib.Omega.{arith}
-use Rattle.memory.specs.Memory.{searchesIn}
-use Rattle.exports.proofs.Refusals.{answers-numbered, refused-or-answered}
+use Rattle.memory.specs.Memory.{searches_in}
+use Rattle.exports.proofs.Refusals.{answers_numbered, refused_or_answered}
 use borrow.Author.Rules.{rules}
 use Rattle.exports.proofs.built.toj_run.Statement.{statement}
 use Rattle.exports.proofs.built.toj_run.Tie as tie
@@ -38,7 +38,7 @@ tell-found-requires c κs =
     let the-args = c.before.before.before.before.before.before.before.before.before.before.before.before.before.before.before.before.before.before.before.before.before.before.before.before.before.before.before.before.before.before.args in
     let the-run-in = c.before.before.before.before.before.before.before.before.before.before.before.run_in in
     let the-if1 = c.before.before.before.before.before.before.before.before.before.before.before.before.before.before.before.before.before.before.before.before.if1 in
-    (answers-numbered (searchesIn the-args.machine.now) the-args.pattern.now the-args.line.now the-args.table.now the-run-in.result the-run-in.new.1.1.1.1.1.1.1.0 the-run-in.ensures.answers, the-if1.false)
+    (answers_numbered (searches_in the-args.machine.now) the-args.pattern.now the-args.line.now the-args.table.now the-run-in.result the-run-in.new.1.1.1.1.1.1.1.0 the-run-in.ensures.answers, the-if1.false)
 
 same_length : tie.Need-same-length
 same_length c = search rules
@@ -71,11 +71,11 @@ returns-4 c =
       small = λ h. absurd (omega (arith, the-if2.false));
       narrow = λ h. absurd (omega (arith, the-if3.false, the-least-of-four.ensures));
       told = λ h k l. (the-run-in.result, the-run-in.ensures.answers, the-tell-found.ensures);
-      kept = λ other. refused-or-answered the-run-in.result the-tell-found.ensures other the-run-in.ensures.kept;
+      kept = λ other. refused_or_answered the-run-in.result the-tell-found.ensures other the-run-in.ensures.kept;
     }
 
-pub toj-run-spec : {M : Type 1} → statement M
-toj-run-spec =
+pub toj_run_spec : {M : Type 1} → statement M
+toj_run_spec =
     tie.close
     (tie.spec
     returns

@@ -1,8 +1,8 @@
 -- Too short, or what checking promised, told.
 use mathlib.Core.Path.{refl}
 use native.Mathlib.Omega.{arith}
-use Rattle.telling.proofs.Telling.{numbered-as}
-use Rattle.telling.proofs.Numbered.{check-numbered}
+use Rattle.telling.proofs.Telling.{numbered_as}
+use Rattle.telling.proofs.Numbered.{check_numbered}
 use borrow.Author.Rules.{rules}
 use Rattle.exports.proofs.calls.toj_check.Statement.{statement}
 use Rattle.exports.proofs.calls.toj_check.Tie as tie
@@ -21,7 +21,7 @@ tell-checked-requires : tie.Need-tell-checked-requires
 tell-checked-requires c κs =
     let the-check = c.before.check in
     let the-args = c.before.before.before.before.before.args in
-    (numbered-as the-check.ensures.answer (check-numbered the-args.pattern.now), omega arith)
+    (numbered_as the-check.ensures.answer (check_numbered the-args.pattern.now), omega arith)
 
 same_length : tie.Need-same-length
 same_length c = search rules
@@ -32,6 +32,6 @@ returns-2 c =
     let the-tell-checked = c.before.before.tell-checked in
     record { short = λ h. absurd (omega arith); told = λ h. (the-check.result, the-check.ensures, the-tell-checked.ensures) }
 
-pub toj-check-spec : {M : Type 1} → statement M
-toj-check-spec =
+pub toj_check_spec : {M : Type 1} → statement M
+toj_check_spec =
     tie.close (tie.spec returns check-requires tell-checked-requires same_length returns-2)

@@ -1,8 +1,8 @@
 -- Too short, or what the call under it promised, told.
 use mathlib.Core.Path.{refl}
 use native.Mathlib.Omega.{arith}
-use Rattle.telling.proofs.Telling.{numbered-as}
-use Rattle.telling.proofs.Numbered.{match-numbered}
+use Rattle.telling.proofs.Telling.{numbered_as}
+use Rattle.telling.proofs.Numbered.{match_numbered}
 use borrow.Author.Rules.{rules}
 use Rattle.exports.proofs.calls.toj_match.Statement.{statement}
 use Rattle.exports.proofs.calls.toj_match.Tie as tie
@@ -21,7 +21,7 @@ tell-found-requires : tie.Need-tell-found-requires
 tell-found-requires c κs =
     let the-whole-match = c.before.before.before.whole-match in
     let the-args = c.before.before.before.before.before.before.before.before.before.before.args in
-    (numbered-as the-whole-match.ensures.answer (match-numbered the-args.pattern.now the-args.line.now the-args.table.now), omega arith)
+    (numbered_as the-whole-match.ensures.answer (match_numbered the-args.pattern.now the-args.line.now the-args.table.now), omega arith)
 
 same_length : tie.Need-same-length
 same_length c = search rules
@@ -35,7 +35,7 @@ returns-2 c =
     let the-tell-found = c.before.before.tell-found in
     record { short = λ h. absurd (omega arith); told = λ h. (the-whole-match.result, the-whole-match.ensures, the-tell-found.ensures) }
 
-pub toj-match-spec : {M : Type 1} → statement M
-toj-match-spec =
+pub toj_match_spec : {M : Type 1} → statement M
+toj_match_spec =
     tie.close
     (tie.spec returns whole-match-requires tell-found-requires same_length same-length-2 returns-2)

@@ -1,9 +1,9 @@
 -- Too short, or the piece, told.
 use mathlib.Core.Path.{refl, sym, ap}
 use native.Mathlib.Omega.{arith}
-use Rattle.telling.specs.Told.{spanNumbers}
-use Rattle.telling.proofs.Telling.{told-as, numbered-as}
-use Rattle.telling.proofs.Numbered.{piece-numbered}
+use Rattle.telling.specs.Told.{span_numbers}
+use Rattle.telling.proofs.Telling.{told_as, numbered_as}
+use Rattle.telling.proofs.Numbered.{piece_numbered}
 use borrow.Author.Rules.{rules}
 use Rattle.exports.proofs.calls.toj_piece.Statement.{statement}
 use Rattle.exports.proofs.calls.toj_piece.Tie as tie
@@ -22,7 +22,7 @@ tell-piece-requires : tie.Need-tell-piece-requires
 tell-piece-requires c κs =
     let the-piece = c.before.piece in
     let the-args = c.before.before.before.before.before.before.before.args in
-    (numbered-as the-piece.ensures (piece-numbered the-args.template.now the-args.line.now the-args.table.now the-args.number), omega arith)
+    (numbered_as the-piece.ensures (piece_numbered the-args.template.now the-args.line.now the-args.table.now the-args.number), omega arith)
 
 same_length : tie.Need-same-length
 same_length c = search rules
@@ -31,8 +31,8 @@ returns-2 : tie.Need-returns-2
 returns-2 c =
     let the-piece = c.before.before.before.before.piece in
     let the-tell-piece = c.before.before.tell-piece in
-    record { short = λ h. absurd (omega arith); told = λ h. told-as (ap spanNumbers (sym the-piece.ensures)) the-tell-piece.ensures }
+    record { short = λ h. absurd (omega arith); told = λ h. told_as (ap span_numbers (sym the-piece.ensures)) the-tell-piece.ensures }
 
-pub toj-piece-spec : {M : Type 1} → statement M
-toj-piece-spec =
+pub toj_piece_spec : {M : Type 1} → statement M
+toj_piece_spec =
     tie.close (tie.spec returns piece-requires tell-piece-requires same_length returns-2)

@@ -1,8 +1,8 @@
 -- Too short, or what the call under it promised, told.
 use mathlib.Core.Path.{refl}
 use native.Mathlib.Omega.{arith}
-use Rattle.telling.proofs.Telling.{numbered-as}
-use Rattle.telling.proofs.Numbered.{replace-numbered}
+use Rattle.telling.proofs.Telling.{numbered_as}
+use Rattle.telling.proofs.Numbered.{replace_numbered}
 use borrow.Author.Rules.{rules}
 use Rattle.exports.proofs.calls.toj_replace.Statement.{statement}
 use Rattle.exports.proofs.calls.toj_replace.Tie as tie
@@ -21,7 +21,7 @@ tell-replaced-requires : tie.Need-tell-replaced-requires
 tell-replaced-requires c κs =
     let the-replace-all = c.before.before.before.replace-all in
     let the-args = c.before.before.before.before.before.before.before.before.before.before.before.args in
-    (numbered-as the-replace-all.ensures.answer (replace-numbered the-args.pattern.now the-args.template.now the-args.line.now the-args.buffer.now), omega arith)
+    (numbered_as the-replace-all.ensures.answer (replace_numbered the-args.pattern.now the-args.template.now the-args.line.now the-args.buffer.now), omega arith)
 
 same_length : tie.Need-same-length
 same_length c = search rules
@@ -35,7 +35,7 @@ returns-2 c =
     let the-tell-replaced = c.before.before.tell-replaced in
     record { short = λ h. absurd (omega arith); told = λ h. (the-replace-all.result, the-replace-all.ensures, the-tell-replaced.ensures) }
 
-pub toj-replace-spec : {M : Type 1} → statement M
-toj-replace-spec =
+pub toj_replace_spec : {M : Type 1} → statement M
+toj_replace_spec =
     tie.close
     (tie.spec returns replace-all-requires tell-replaced-requires same_length same-length-2 returns-2)

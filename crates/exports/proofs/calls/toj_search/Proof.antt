@@ -1,8 +1,8 @@
 -- Too short, or what the call under it promised, told.
 use mathlib.Core.Path.{refl}
 use native.Mathlib.Omega.{arith}
-use Rattle.telling.proofs.Telling.{numbered-as}
-use Rattle.telling.proofs.Numbered.{search-numbered}
+use Rattle.telling.proofs.Telling.{numbered_as}
+use Rattle.telling.proofs.Numbered.{search_numbered}
 use borrow.Author.Rules.{rules}
 use Rattle.exports.proofs.calls.toj_search.Statement.{statement}
 use Rattle.exports.proofs.calls.toj_search.Tie as tie
@@ -21,7 +21,7 @@ tell-found-requires : tie.Need-tell-found-requires
 tell-found-requires c κs =
     let the-search = c.before.before.before.search in
     let the-args = c.before.before.before.before.before.before.before.before.before.before.args in
-    (numbered-as the-search.ensures.answer (search-numbered the-args.pattern.now the-args.line.now the-args.table.now), omega arith)
+    (numbered_as the-search.ensures.answer (search_numbered the-args.pattern.now the-args.line.now the-args.table.now), omega arith)
 
 same_length : tie.Need-same-length
 same_length c = search rules
@@ -35,7 +35,7 @@ returns-2 c =
     let the-tell-found = c.before.before.tell-found in
     record { short = λ h. absurd (omega arith); told = λ h. (the-search.result, the-search.ensures, the-tell-found.ensures) }
 
-pub toj-search-spec : {M : Type 1} → statement M
-toj-search-spec =
+pub toj_search_spec : {M : Type 1} → statement M
+toj_search_spec =
     tie.close
     (tie.spec returns search-requires tell-found-requires same_length same-length-2 returns-2)

@@ -73,8 +73,8 @@ same_length c = search rules
 returns : tie.Need-returns invariant-loop decreases-loop
 returns c = search rules
 
-pub places-spec : {M : Type 1} → statement M
-places-spec =
+pub places_spec : {M : Type 1} → statement M
+places_spec =
     tie.close
     (tie.spec
     invariant-loop

@@ -56,8 +56,8 @@ same_length c = search rules
 returns : tie.Need-returns invariant-loop decreases-loop
 returns c = search rules
 
-pub ranges-spec : {M : Type 1} → statement M
-ranges-spec =
+pub ranges_spec : {M : Type 1} → statement M
+ranges_spec =
     tie.close
     (tie.spec
     invariant-loop

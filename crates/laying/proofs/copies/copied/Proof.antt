@@ -6,7 +6,7 @@ use borrow.Author.Rules.{rules}
 use Rattle.laying.proofs.copies.copied.Statement.{statement}
 use Rattle.laying.proofs.copies.copied.Tie as tie
 use Rattle.laying.specs.Copies.{Copied}
-use Rattle.laying.proofs.Copying.{copy-one}
+use Rattle.laying.proofs.Copying.{copy_one}
 
 abbrev invariant-loop : tie.invariant-loop
 invariant-loop table₀ shift k₀ table k = (k ≤ shift.count) × Copied shift.from shift.count shift.to shift.next k table₀ table
@@ -32,7 +32,7 @@ loop-again c =
     let the-pre = c.before.before.before.before.before.before.before.before.requires in
     let the-loop = c.before.before.before.before.before.before.loop in
     let the-place-copied = c.before.before.place-copied in
-    (omega (arith, the-if1.true), copy-one the-pre.0 the-if1.true the-loop.invariant.1 the-place-copied.ensures)
+    (omega (arith, the-if1.true), copy_one the-pre.0 the-if1.true the-loop.invariant.1 the-place-copied.ensures)
 
 same_length : tie.Need-same-length invariant-loop decreases-loop
 same_length c = search rules
@@ -45,8 +45,8 @@ returns c =
     subst (λ (k : ℕ). Copied the-args.shift.from the-args.shift.count the-args.shift.to the-args.shift.next k the-args.table.now the-loop.table)
     (omega (arith, the-loop.invariant.0, the-if1.false)) the-loop.invariant.1
 
-pub copied-spec : {M : Type 1} → statement M
-copied-spec =
+pub copied_spec : {M : Type 1} → statement M
+copied_spec =
     tie.close
     (tie.spec
     invariant-loop

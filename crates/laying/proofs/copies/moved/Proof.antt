@@ -4,7 +4,7 @@ use mathlib.Core.Path.{sym}
 use native.Mathlib.Omega.{arith}
 use Rattle.laying.proofs.copies.moved.Statement.{statement}
 use Rattle.laying.proofs.copies.moved.Tie as tie
-use Rattle.laying.proofs.Copying.{moved_before, moved_inside, moved-behind}
+use Rattle.laying.proofs.Copying.{moved_before, moved_inside, moved_behind}
 
 returns : tie.Need-returns
 returns c =
@@ -32,9 +32,9 @@ returns-3 c =
     let the-if1 = c.before.before.before.if1 in
     let the-if2 = c.if2 in
     let the-pre = c.before.before.before.before.before.requires in (
-      sym (moved-behind the-args.shift.from the-args.shift.count the-args.shift.to the-args.shift.next the-args.x (omega (arith, the-if1.false, the-if2.false))),
+      sym (moved_behind the-args.shift.from the-args.shift.count the-args.shift.to the-args.shift.next the-args.x (omega (arith, the-if1.false, the-if2.false))),
       the-pre.follows,
     )
 
-pub moved-spec : {M : Type 1} → statement M
-moved-spec = tie.close (tie.spec returns add-result returns-2 returns-3)
+pub moved_spec : {M : Type 1} → statement M
+moved_spec = tie.close (tie.spec returns add-result returns-2 returns-3)

@@ -4,7 +4,7 @@ use mathlib.Core.Path.{sym, ◌∙◌}
 use native.Mathlib.Omega.{arith}
 use Rattle.laying.proofs.copies.moved_other.Statement.{statement}
 use Rattle.laying.proofs.copies.moved_other.Tie as tie
-use Rattle.laying.proofs.Copying.{other-fork, other-same}
+use Rattle.laying.proofs.Copying.{other_fork, other_same}
 
 moved-requires : tie.Need-moved-requires
 moved-requires c κs = search rules
@@ -15,7 +15,7 @@ returns c =
     let the-moved = c.moved in
     let the-if1 = c.before.if1 in (
       the-moved.ensures.0
-          ∙ sym (other-fork the-args.shift.from the-args.shift.count the-args.shift.to the-args.shift.next the-args.kind the-args.a the-if1.true),
+          ∙ sym (other_fork the-args.shift.from the-args.shift.count the-args.shift.to the-args.shift.next the-args.kind the-args.a the-if1.true),
       omega (arith, the-moved.ensures.1),
     )
 
@@ -24,9 +24,9 @@ returns-2 c =
     let the-args = c.before.args in
     let the-if1 = c.if1 in
     let the-pre = c.before.requires in (
-      sym (other-same the-args.shift.from the-args.shift.count the-args.shift.to the-args.shift.next the-args.kind the-args.a the-if1.false),
+      sym (other_same the-args.shift.from the-args.shift.count the-args.shift.to the-args.shift.next the-args.kind the-args.a the-if1.false),
       the-pre.1,
     )
 
-pub moved-other-spec : {M : Type 1} → statement M
-moved-other-spec = tie.close (tie.spec moved-requires returns returns-2)
+pub moved_other_spec : {M : Type 1} → statement M
+moved_other_spec = tie.close (tie.spec moved-requires returns returns-2)

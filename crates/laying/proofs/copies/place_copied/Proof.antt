@@ -2,7 +2,7 @@
 use borrow.Author.Rules.{rules}
 use Rattle.laying.proofs.copies.place_copied.Statement.{statement}
 use Rattle.laying.proofs.copies.place_copied.Tie as tie
-use Rattle.laying.proofs.Copying.{place-put}
+use Rattle.laying.proofs.Copying.{place_put}
 
 add-b : tie.Need-overflow-add-b
 add-b c = search rules
@@ -76,11 +76,11 @@ returns c =
     let the-moved-other = c.before.before.before.before.before.before.before.moved_other in
     let the-number3 = c.before.before.before.before.before.number3 in
     let the-put = c.before.before.put in
-    place-put the-args.shift.from the-args.shift.count the-args.shift.to the-args.shift.next the-args.k the-args.table.now the_number.ensures.0
+    place_put the-args.shift.from the-args.shift.count the-args.shift.to the-args.shift.next the-args.k the-args.table.now the_number.ensures.0
     the-moved.ensures.0 the-number2.ensures.0 the-moved-other.ensures.0 the-number3.ensures.0 the-put.ensures
 
-pub place-copied-spec : {M : Type 1} → statement M
-place-copied-spec =
+pub place_copied_spec : {M : Type 1} → statement M
+place_copied_spec =
     tie.close
     (tie.spec
     add-b

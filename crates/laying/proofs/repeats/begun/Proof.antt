@@ -3,7 +3,7 @@ use borrow.Author.Rules.{rules}
 use native.Mathlib.Omega.{arith}
 use Rattle.laying.proofs.repeats.begun.Statement.{statement}
 use Rattle.laying.proofs.repeats.begun.Tie as tie
-use Rattle.laying.proofs.Passing.{begin-fits, begin-moving, begun-laid, begun-there}
+use Rattle.laying.proofs.Passing.{begin_fits, begin_moving, begun_laid, begun_there}
 
 add-inside : tie.Need-overflow-add-inside
 add-inside c = search rules
@@ -15,7 +15,7 @@ put-requires : tie.Need-put-requires
 put-requires c κs =
     let the-pre = c.before.before.before.requires in
     let the-entered = c.entered in
-    begin-fits the-pre.0 the-pre.1 the-entered.ensures
+    begin_fits the-pre.0 the-pre.1 the-entered.ensures
 
 add-if2 : tie.Need-overflow-add-if2
 add-if2 c =
@@ -32,13 +32,13 @@ returns c =
     let the-put = c.before.before.before.before.before.put in
     let the-if1 = c.before.if1 in
     let the-if2 = c.if2 in
-    begun-there the-pre.0 the-entered.ensures the-put.ensures the-if1.true the-if2.true
+    begun_there the-pre.0 the-entered.ensures the-put.ensures the-if1.true the-if2.true
 
 copied-requires : tie.Need-copied-requires
 copied-requires c κs =
     let the-pre = c.before.before.before.before.before.before.before.before.before.requires in
     let the-put = c.before.before.before.before.before.put in
-    (begin-moving the-pre.0, omega (arith, the-put.ensures.kept.same_length, the-pre.1))
+    (begin_moving the-pre.0, omega (arith, the-put.ensures.kept.same_length, the-pre.1))
 
 same-length-2 : tie.Need-same-length-2
 same-length-2 c = search rules
@@ -49,10 +49,10 @@ returns-2 c =
     let the-entered = c.before.before.before.before.before.before.before.before.before.entered in
     let the-put = c.before.before.before.before.before.before.before.before.put in
     let the-copied = c.before.before.copied in
-    begun-laid the-pre.0 the-entered.ensures the-put.ensures the-copied.ensures
+    begun_laid the-pre.0 the-entered.ensures the-put.ensures the-copied.ensures
 
-pub begun-spec : {M : Type 1} → statement M
-begun-spec =
+pub begun_spec : {M : Type 1} → statement M
+begun_spec =
     tie.close
     (tie.spec
     add-inside

@@ -4,8 +4,8 @@ use native.Mathlib.Omega.{arith}
 use Rattle.laying.proofs.repeats.may_passes.Statement.{statement}
 use Rattle.laying.proofs.repeats.may_passes.Tie as tie
 use Rattle.laying.specs.Repeats.{PassesLeft}
-use Rattle.laying.proofs.Entering.{places-may, at_least_one}
-use Rattle.laying.proofs.Passing.{may-begun, end_fits, left-all, left-may, left-fork, left-none}
+use Rattle.laying.proofs.Entering.{places_may, at_least_one}
+use Rattle.laying.proofs.Passing.{may_begun, end_fits, left_all, left_may, left_fork, left_none}
 
 abbrev invariant-loop : tie.invariant-loop
 invariant-loop table₀ pass may base next left₀ from₀ table left from =
@@ -18,35 +18,35 @@ loop-holds : tie.Need-loop-init invariant-loop decreases-loop
 loop-holds c =
     let the-args = c.before.args in
     let the-pre = c.before.requires in
-    left-all the-args.table.now the-pre.0
+    left_all the-args.table.now the-pre.0
 
 add_begin : tie.Need-overflow-add-begin invariant-loop decreases-loop
 add_begin c =
     let the-loop = c.before.loop in
     let the-args = c.before.before.before.args in
     let the-loop-test = c.loop-test in
-    omega (arith, the-loop.invariant.asked.room, places-may 0 the-loop.left the-args.pass.places refl the-loop-test.true)
+    omega (arith, the-loop.invariant.asked.room, places_may 0 the-loop.left the-args.pass.places refl the-loop-test.true)
 
 add-end : tie.Need-overflow-add-end invariant-loop decreases-loop
 add-end c =
     let the-loop = c.before.loop in
     let the-args = c.before.before.before.args in
     let the-loop-test = c.loop-test in
-    omega (arith, the-loop.invariant.asked.room, places-may 0 the-loop.left the-args.pass.places refl the-loop-test.true)
+    omega (arith, the-loop.invariant.asked.room, places_may 0 the-loop.left the-args.pass.places refl the-loop-test.true)
 
 add-end-2 : tie.Need-overflow-add-end-2 invariant-loop decreases-loop
 add-end-2 c =
     let the-loop = c.before.before.loop in
     let the-args = c.before.before.before.before.args in
     let the-loop-test = c.before.loop-test in
-    omega (arith, the-loop.invariant.asked.room, places-may 0 the-loop.left the-args.pass.places refl the-loop-test.true)
+    omega (arith, the-loop.invariant.asked.room, places_may 0 the-loop.left the-args.pass.places refl the-loop-test.true)
 
 add-pass-end : tie.Need-overflow-add-pass-end invariant-loop decreases-loop
 add-pass-end c =
     let the-loop = c.before.before.loop in
     let the-args = c.before.before.before.before.args in
     let the-loop-test = c.before.loop-test in
-    omega (arith, the-loop.invariant.asked.room, places-may 0 the-loop.left the-args.pass.places refl the-loop-test.true)
+    omega (arith, the-loop.invariant.asked.room, places_may 0 the-loop.left the-args.pass.places refl the-loop-test.true)
 
 pass-end-requires : tie.Need-pass-end-requires invariant-loop decreases-loop
 pass-end-requires c κs =
@@ -58,15 +58,15 @@ pass-fork-requires c κs =
     let the-loop = c.before.before.before.before.loop in
     let the-loop-test = c.before.before.before.loop-test in
     let the-pre = c.before.before.before.before.before.before.requires in
-    left-fork the-loop.invariant the-loop-test.true the-pre.1
+    left_fork the-loop.invariant the-loop-test.true the-pre.1
 
 begun-requires : tie.Need-begun-requires invariant-loop decreases-loop
 begun-requires c κs =
     let the-loop = c.before.before.before.before.before.before.before.before.loop in
     let the-loop-test = c.before.before.before.before.before.before.before.loop-test in
-    let the-pass-fork = c.before.before.before.pass-fork in
+    let the-pass-fork = c.before.before.before.pass_fork in
     let the-pre = c.before.before.before.before.before.before.before.before.before.before.requires in
-    (may-begun the-loop.invariant.asked refl the-loop-test.true, omega (arith, the-pass-fork.ensures.kept.same_length, the-loop.invariant.same_length, the-pre.1))
+    (may_begun the-loop.invariant.asked refl the-loop-test.true, omega (arith, the-pass-fork.ensures.kept.same_length, the-loop.invariant.same_length, the-pre.1))
 
 put-requires : tie.Need-put-requires invariant-loop decreases-loop
 put-requires c κs =
@@ -74,7 +74,7 @@ put-requires c κs =
     let the-loop-test = c.before.before.before.before.before.before.before.before.before.before.before.loop-test in
     let the-pass-end = c.before.before.before.before.before.before.before.before.before.pass-end in
     let the-begun = c.before.before.before.begun in
-    let the-pass-fork = c.before.before.before.before.before.before.before.pass-fork in
+    let the-pass-fork = c.before.before.before.before.before.before.before.pass_fork in
     let the-pre = c.before.before.before.before.before.before.before.before.before.before.before.before.before.before.requires in
     end_fits the-loop.invariant.asked refl the-loop-test.true the-pass-end.ensures
     (omega (arith, the-begun.ensures.kept.same_length, the-pass-fork.ensures.kept.same_length, the-loop.invariant.same_length, the-pre.1))
@@ -84,7 +84,7 @@ add-from c =
     let the-loop = c.before.before.before.before.before.before.before.before.before.before.before.before.before.before.before.loop in
     let the-args = c.before.before.before.before.before.before.before.before.before.before.before.before.before.before.before.before.before.args in
     let the-loop-test = c.before.before.before.before.before.before.before.before.before.before.before.before.before.before.loop-test in
-    omega (arith, the-loop.invariant.asked.room, places-may 0 the-loop.left the-args.pass.places refl the-loop-test.true)
+    omega (arith, the-loop.invariant.asked.room, places_may 0 the-loop.left the-args.pass.places refl the-loop-test.true)
 
 sub-left : tie.Need-overflow-sub-left invariant-loop decreases-loop
 sub-left c =
@@ -101,10 +101,10 @@ loop-again c =
     let the-loop = c.before.before.before.before.before.before.before.before.before.before.before.before.before.before.before.loop in
     let the-loop-test = c.before.before.before.before.before.before.before.before.before.before.before.before.before.before.loop-test in
     let the-pass-end = c.before.before.before.before.before.before.before.before.before.before.before.before.pass-end in
-    let the-pass-fork = c.before.before.before.before.before.before.before.before.before.before.pass-fork in
+    let the-pass-fork = c.before.before.before.before.before.before.before.before.before.before.pass_fork in
     let the-begun = c.before.before.before.before.before.before.begun in
     let the-put = c.before.before.put in
-    left-may the-loop.invariant the-loop-test.true the-pass-end.ensures the-pass-fork.ensures the-begun.ensures the-put.ensures
+    left_may the-loop.invariant the-loop-test.true the-pass-end.ensures the-pass-fork.ensures the-begun.ensures the-put.ensures
 
 same_length : tie.Need-same-length invariant-loop decreases-loop
 same_length c =
@@ -115,10 +115,10 @@ returns : tie.Need-returns invariant-loop decreases-loop
 returns c =
     let the-loop = c.before.loop in
     let the-loop-test = c.loop-test in
-    left-none the-loop.invariant the-loop-test.false
+    left_none the-loop.invariant the-loop-test.false
 
-pub may-passes-spec : {M : Type 1} → statement M
-may-passes-spec =
+pub may_passes_spec : {M : Type 1} → statement M
+may_passes_spec =
     tie.close
     (tie.spec
     invariant-loop

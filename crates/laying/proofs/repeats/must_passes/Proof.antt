@@ -4,8 +4,8 @@ use borrow.Author.Rules.{rules}
 use Rattle.laying.proofs.repeats.must_passes.Statement.{statement}
 use Rattle.laying.proofs.repeats.must_passes.Tie as tie
 use Rattle.laying.specs.Repeats.{PassesLeft}
-use Rattle.laying.proofs.Entering.{places-must, passes_count, at_least_one}
-use Rattle.laying.proofs.Passing.{must-begun, left-all, left-must}
+use Rattle.laying.proofs.Entering.{places_must, passes_count, at_least_one}
+use Rattle.laying.proofs.Passing.{must_begun, left_all, left_must}
 
 abbrev invariant-loop : tie.invariant-loop
 invariant-loop table₀ pass must may base next left₀ from₀ table left from =
@@ -18,21 +18,21 @@ loop-holds : tie.Need-loop-init invariant-loop decreases-loop
 loop-holds c =
     let the-args = c.before.args in
     let the-pre = c.before.requires in
-    left-all the-args.table.now the-pre.0
+    left_all the-args.table.now the-pre.0
 
 add-after : tie.Need-overflow-add-after invariant-loop decreases-loop
 add-after c =
     let the-loop = c.before.loop in
     let the-args = c.before.before.before.args in
     let the-loop-test = c.loop-test in
-    omega (arith, the-loop.invariant.asked.room, places-must the-loop.left the-args.may the-args.pass.places the-loop-test.true)
+    omega (arith, the-loop.invariant.asked.room, places_must the-loop.left the-args.may the-args.pass.places the-loop-test.true)
 
 add-after-2 : tie.Need-overflow-add-after-2 invariant-loop decreases-loop
 add-after-2 c =
     let the-loop = c.before.before.loop in
     let the-args = c.before.before.before.before.args in
     let the-loop-test = c.before.loop-test in
-    omega (arith, the-loop.invariant.asked.room, places-must the-loop.left the-args.may the-args.pass.places the-loop-test.true)
+    omega (arith, the-loop.invariant.asked.room, places_must the-loop.left the-args.may the-args.pass.places the-loop-test.true)
 
 sub-entered : tie.Need-overflow-sub-entered invariant-loop decreases-loop
 sub-entered c =
@@ -55,7 +55,7 @@ begun-requires c κs =
     let the-loop = c.before.before.before.before.loop in
     let the-loop-test = c.before.before.before.loop-test in
     let the-pre = c.before.before.before.before.before.before.requires in
-    (must-begun the-entered.result the-loop.invariant.asked the-loop-test.true the-entered.ensures, omega (arith, the-loop.invariant.same_length, the-pre.1))
+    (must_begun the-entered.result the-loop.invariant.asked the-loop-test.true the-entered.ensures, omega (arith, the-loop.invariant.same_length, the-pre.1))
 
 sub-left : tie.Need-overflow-sub-left invariant-loop decreases-loop
 sub-left c =
@@ -73,7 +73,7 @@ loop-again c =
     let the-loop-test = c.before.before.before.before.before.before.loop-test in
     let the-entered = c.before.before.before.before.entered in
     let the-begun = c.before.before.begun in
-    left-must the-loop.invariant the-loop-test.true the-entered.ensures the-begun.ensures
+    left_must the-loop.invariant the-loop-test.true the-entered.ensures the-begun.ensures
 
 same_length : tie.Need-same-length invariant-loop decreases-loop
 same_length c =
@@ -86,8 +86,8 @@ returns c =
     let the-loop = c.before.loop in
     rw the-loop-test.false at the-loop.invariant
 
-pub must-passes-spec : {M : Type 1} → statement M
-must-passes-spec =
+pub must_passes_spec : {M : Type 1} → statement M
+must_passes_spec =
     tie.close
     (tie.spec
     invariant-loop

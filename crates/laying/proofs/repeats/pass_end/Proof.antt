@@ -18,5 +18,5 @@ returns-2 c =
     let the-entered = c.entered in
     rw the-if1.false the-entered.ensures
 
-pub pass-end-spec : {M : Type 1} → statement M
-pass-end-spec = tie.close (tie.spec sub-entered entered-requires returns returns-2)
+pub pass_end_spec : {M : Type 1} → statement M
+pass_end_spec = tie.close (tie.spec sub-entered entered-requires returns returns-2)

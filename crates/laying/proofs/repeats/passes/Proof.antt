@@ -18,5 +18,5 @@ returns c =
     let the-may-passes = c.before.before.may-passes in
     the-must-passes.ensures.all _ the-may-passes.ensures
 
-pub passes-spec : {M : Type 1} → statement M
-passes-spec = tie.close (tie.spec must-passes-requires may-passes-requires same_length returns)
+pub passes_spec : {M : Type 1} → statement M
+passes_spec = tie.close (tie.spec must-passes-requires may-passes-requires same_length returns)

@@ -1,4 +1,4 @@
--- `counts::optional` meets its contract: its test is the one that `upperOf` makes.
+-- `counts::optional` meets its contract: its test is the one that `upper_of` makes.
 use borrow.Author.Tests.{eq-eqb, ne_eqb}
 use borrow.Author.Rules.{rules}
 use Rattle.pattern.proofs.counts.optional.Statement.{statement}
@@ -13,5 +13,5 @@ returns c = rw (eq-eqb _ _ c.if1.true)
 returns-2 : tie.Need-returns-2
 returns-2 c = rw (ne_eqb _ _ c.if1.false)
 
-pub optional-spec : {M : Type 1} → statement M
-optional-spec = tie.close (tie.spec sub-result returns returns-2)
+pub optional_spec : {M : Type 1} → statement M
+optional_spec = tie.close (tie.spec sub-result returns returns-2)

@@ -2,7 +2,7 @@
 use Prim.Native.Nat.{◌-◌}
 use native.Mathlib.Omega.{arith}
 use borrow.Author.Rules.{rules}
-use Rattle.pattern.proofs.Pairs.{Left, begun, all_apart, too-close, reversed, one-pair}
+use Rattle.pattern.proofs.Pairs.{Left, begun, all_apart, too_close, reversed, one_pair}
 use Rattle.pattern.proofs.sets.apart.Statement.{statement}
 use Rattle.pattern.proofs.sets.apart.Tie as tie
 
@@ -38,7 +38,7 @@ returns c =
     let the-loop = c.before.before.before.before.before.before.loop in
     let the-pre = c.before.before.before.before.before.before.before.before.requires in
     let the-loop-test = c.before.before.before.before.before.loop-test in
-    too-close the-loop.invariant the-pre.2 the-loop-test.true (omega arith)
+    too_close the-loop.invariant the-pre.2 the-loop-test.true (omega arith)
 
 returns-2 : tie.Need-returns-2 invariant-loop decreases-loop
 returns-2 c =
@@ -62,7 +62,7 @@ loop-again c =
     let the-loop = c.before.before.before.before.before.before.before.loop in
     let the-pre = c.before.before.before.before.before.before.before.before.before.requires in
     let the-loop-test = c.before.before.before.before.before.before.loop-test in
-    rw the-wide2.ensures.0 (one-pair the-loop.invariant the-pre.2 the-loop-test.true (omega arith) (omega arith))
+    rw the-wide2.ensures.0 (one_pair the-loop.invariant the-pre.2 the-loop-test.true (omega arith) (omega arith))
 
 returns-3 : tie.Need-returns-3 invariant-loop decreases-loop
 returns-3 c =
@@ -71,8 +71,8 @@ returns-3 c =
     let the-loop-test = c.loop-test in
     all_apart the-loop.invariant the-pre.2 the-loop-test.false
 
-pub apart-spec : {M : Type 1} → statement M
-apart-spec =
+pub apart_spec : {M : Type 1} → statement M
+apart_spec =
     tie.close
     (tie.spec
     invariant-loop

@@ -6,35 +6,35 @@ use mathlib.Core.Bool.{true, false}
 use native.Mathlib.Omega.{arith}
 use borrow.Author.Rules.{rules}
 use Rattle.paper.specs.Pattern.Pattern.{nothing, empty}
-use Rattle.paper.specs.Check.{bodyEnd, walkRecord}
+use Rattle.paper.specs.Check.{body_end, walk_record}
 use Rattle.records.specs.Header.{Shows}
-use Rattle.pattern.specs.Walk.{toldAll, members_of, Within}
+use Rattle.pattern.specs.Walk.{told_all, members_of, Within}
 use Rattle.pattern.proofs.Counting.{bounded}
 use Rattle.pattern.proofs.Walking.{
   refusal,
   tree_of,
-  fault-of,
-  bounded-record,
-  bounded-members,
+  fault_of,
+  bounded_record,
+  bounded_members,
   passed_on,
   cut_off,
-  kind-unknown,
-  no-level,
-  one-level,
-  bare-tells,
+  kind_unknown,
+  no_level,
+  one_level,
+  bare_tells,
   set_tells,
-  tenth-group,
-  group-tells,
-  short-repeat,
-  wrong-numbers,
-  repeat-tells,
-  inner-fault,
+  tenth_group,
+  group_tells,
+  short_repeat,
+  wrong_numbers,
+  repeat_tells,
+  inner_fault,
   left_over,
-  single-tells,
-  several-tells,
-  last-kind,
+  single_tells,
+  several_tells,
+  last_kind,
 }
-use Rattle.pattern.proofs.Turning.{Left, begun, none_more, bad-one, one_more}
+use Rattle.pattern.proofs.Turning.{Left, begun, none_more, bad_one, one_more}
 use borrow.Fn.Kinds.{In}
 use borrow.Fn.PlainCycle.{Measures, is, falls, and}
 use Rattle.pattern.proofs.walk.all_inside.Reads as all-inside
@@ -175,7 +175,7 @@ any-record-returns t c =
     let the-header-at = c.before.before.before.before.header_at in
     let s = the-args.s.now in
     let shown = subst (Shows s the-args.at the-args.stop) the-kind.given.1 the-header-at.ensures in
-    refusal (kind-unknown s the-args.at the-args.stop the-args.before the-args.levels shown.0 (omega arith))
+    refusal (kind_unknown s the-args.at the-args.stop the-args.before the-args.levels shown.0 (omega arith))
 
 any-record-returns-2 : (t : ℕ) → any-record-lts.Need-returns-2 (any-record-calls t) (any-record-at t) any-record.Post
 any-record-returns-2 t c =
@@ -185,7 +185,7 @@ any-record-returns-2 t c =
     let the-if2 = c.if2 in
     let s = the-args.s.now in
     let shown = subst (Shows s the-args.at the-args.stop) the-kind.given.1 the-header-at.ensures in
-    refusal (no-level s the-args.at the-args.stop the-args.before the-args.levels the-if2.true shown.0 (omega arith))
+    refusal (no_level s the-args.at the-args.stop the-args.before the-args.levels the-if2.true shown.0 (omega arith))
 
 any-record-sub-body : (t : ℕ) → any-record-lts.Need-overflow-sub-body (any-record-calls t) (any-record-at t) any-record.Post
 any-record-sub-body t c = search rules
@@ -217,7 +217,7 @@ any-record-returns-4 t c =
     let the-body = c.body in
     let s = the-args.s.now in
     let shown = subst (Shows s the-args.at the-args.stop) the-kind.given.1 the-header-at.ensures in
-    passed_on (omega arith) (omega arith) shown.3 (rw shown.1 (one-level s the-args.at the-args.stop the-args.before the-args.levels the-if2.false shown.0)) the-body.ensures
+    passed_on (omega arith) (omega arith) shown.3 (rw shown.1 (one_level s the-args.at the-args.stop the-args.before the-args.levels the-if2.false shown.0)) the-body.ensures
 
 -- ---- a body by its kind
 
@@ -243,7 +243,7 @@ body-as-several-requires : (t : ℕ) → body-lts.Need-as-several-requires (body
 body-as-several-requires t c κs =
     let the-args = c.before.before.before.args in
     let the-all-inside = c.all-inside in
-    bounded-members the-args.left the-all-inside.result (omega arith) the-all-inside.ensures.within
+    bounded_members the-args.left the-all-inside.result (omega arith) the-all-inside.ensures.within
 
 body-all-inside-requires-2 : (t : ℕ) → body-lts.Need-all-inside-requires-2 (body-calls t) (body_at t) body.Post
 body-all-inside-requires-2 t c κs = search rules
@@ -252,7 +252,7 @@ body-as-several-requires-2 : (t : ℕ) → body-lts.Need-as-several-requires-2 (
 body-as-several-requires-2 t c κs =
     let the-args = c.before.before.before.args in
     let the-all-inside2 = c.all-inside2 in
-    bounded-members the-args.left the-all-inside2.result (omega arith) the-all-inside2.ensures.within
+    bounded_members the-args.left the-all-inside2.result (omega arith) the-all-inside2.ensures.within
 
 body-repeat-requires : (t : ℕ) → body-lts.Need-repeat-requires (body-calls t) (body_at t) body.Post
 body-repeat-requires t c κs = search rules
@@ -265,7 +265,7 @@ body-returns t c =
     let the-leaf = c.leaf in
     let s = the-args.s.now in
     let room = the-pre.1.0 in
-    rw (the_match.keys1, the-leaf.ensures) (bare-tells s the-args.at (the-args.left + 1) nothing the-pre.1.1 room.ends (omega arith) refl refl room.few-groups)
+    rw (the_match.keys1, the-leaf.ensures) (bare_tells s the-args.at (the-args.left + 1) nothing the-pre.1.1 room.ends (omega arith) refl refl room.few_groups)
 
 body-returns-2 : (t : ℕ) → body-lts.Need-returns-2 (body-calls t) (body_at t) body.Post
 body-returns-2 t c =
@@ -275,7 +275,7 @@ body-returns-2 t c =
     let the-leaf2 = c.leaf2 in
     let s = the-args.s.now in
     let room = the-pre.1.0 in
-    rw (the_match.keys2, the-leaf2.ensures) (bare-tells s the-args.at (the-args.left + 1) empty the-pre.1.1 room.ends (omega arith) refl refl room.few-groups)
+    rw (the_match.keys2, the-leaf2.ensures) (bare_tells s the-args.at (the-args.left + 1) empty the-pre.1.1 room.ends (omega arith) refl refl room.few_groups)
 
 body-returns-3 : (t : ℕ) → body-lts.Need-returns-3 (body-calls t) (body_at t) body.Post
 body-returns-3 t c =
@@ -286,7 +286,7 @@ body-returns-3 t c =
     let the-right = c.before.right in
     let s = the-args.s.now in
     let room = the-pre.1.0 in
-    rw (the_match.keys3, the-leaf3.ensures, the-right.ensures) (set_tells s the-args.at (the-args.left + 1) the-pre.1.1 room.ends room.few-groups)
+    rw (the_match.keys3, the-leaf3.ensures, the-right.ensures) (set_tells s the-args.at (the-args.left + 1) the-pre.1.1 room.ends room.few_groups)
 
 body-returns-4 : (t : ℕ) → body-lts.Need-returns-4 (body-calls t) (body_at t) body.Post
 body-returns-4 t c =
@@ -300,7 +300,7 @@ body-returns-5 t c =
     let the-as-several = c.as-several in
     let the-args = c.before.before.before.before.args in
     let the-all-inside = c.before.all-inside in
-    rw (the_match.keys5, the-as-several.ensures) (several-tells the-args.at false the-all-inside.ensures)
+    rw (the_match.keys5, the-as-several.ensures) (several_tells the-args.at false the-all-inside.ensures)
 
 body-returns-6 : (t : ℕ) → body-lts.Need-returns-6 (body-calls t) (body_at t) body.Post
 body-returns-6 t c =
@@ -308,7 +308,7 @@ body-returns-6 t c =
     let the-as-several2 = c.as-several2 in
     let the-args = c.before.before.before.before.args in
     let the-all-inside2 = c.before.all-inside2 in
-    rw (the_match.keys6, the-as-several2.ensures) (several-tells the-args.at true the-all-inside2.ensures)
+    rw (the_match.keys6, the-as-several2.ensures) (several_tells the-args.at true the-all-inside2.ensures)
 
 body-returns-7 : (t : ℕ) → body-lts.Need-returns-7 (body-calls t) (body_at t) body.Post
 body-returns-7 t c =
@@ -317,7 +317,7 @@ body-returns-7 t c =
     let the-pre = c.before.before.before.requires in
     let the-repeat = c.repeat in
     let not = the_match.rest in
-    rw (last-kind the-args.kind the-pre.1.2 not.0.0.0.0.0.1 not.0.0.0.0.1 not.0.0.0.1 not.0.0.1 not.0.1 not.1) the-repeat.ensures
+    rw (last_kind the-args.kind the-pre.1.2 not.0.0.0.0.0.1 not.0.0.0.0.1 not.0.0.0.1 not.0.0.1 not.0.1 not.1) the-repeat.ensures
 
 -- ---- a group
 
@@ -331,7 +331,7 @@ group-as-group-requires : (t : ℕ) → group-lts.Need-as-group-requires (group-
 group-as-group-requires t c κs =
     let the-args = c.before.before.before.args in
     let the-one-inside = c.one_inside in
-    bounded-record the-args.end the-args.left the-one-inside.result (omega arith) (omega arith) the-one-inside.ensures.within
+    bounded_record the-args.end the-args.left the-one-inside.result (omega arith) (omega arith) the-one-inside.ensures.within
 
 group-returns : (t : ℕ) → group-lts.Need-returns (group-calls t) (group_at t) group.Post
 group-returns t c =
@@ -341,14 +341,14 @@ group-returns t c =
     let the-pre = c.before.before.before.before.requires in
     let the-one-inside = c.before.one_inside in
     let s = the-args.s.now in
-    rw the-as-group.ensures (group-tells (walkRecord the-args.left s) s the-args.at the-args.end the-args.left the-args.before the-if1.true the-pre.1.1 the-one-inside.ensures)
+    rw the-as-group.ensures (group_tells (walk_record the-args.left s) s the-args.at the-args.end the-args.left the-args.before the-if1.true the-pre.1.1 the-one-inside.ensures)
 
 group-returns-2 : (t : ℕ) → group-lts.Need-returns-2 (group-calls t) (group_at t) group.Post
 group-returns-2 t c =
     let the-args = c.before.before.args in
     let the-if1 = c.if1 in
     let s = the-args.s.now in
-    refusal (tenth-group (walkRecord the-args.left s) s the-args.at the-args.end the-args.left the-args.before the-if1.false)
+    refusal (tenth_group (walk_record the-args.left s) s the-args.at the-args.end the-args.left the-args.before the-if1.false)
 
 -- ---- a repeat
 
@@ -359,7 +359,7 @@ repeat-returns : (t : ℕ) → repeat-lts.Need-returns (repeat-calls t) (repeat-
 repeat-returns t c =
     let the-args = c.before.before.args in
     let s = the-args.s.now in
-    refusal (short-repeat (walkRecord the-args.left s) s the-args.at the-args.end the-args.left the-args.before (omega arith))
+    refusal (short_repeat (walk_record the-args.left s) s the-args.at the-args.end the-args.left the-args.before (omega arith))
 
 repeat-number-at-requires : (t : ℕ) → repeat-lts.Need-number-at-requires (repeat-calls t) (repeat-at t) repeat.Post
 repeat-number-at-requires t c κs = search rules
@@ -408,8 +408,8 @@ repeat-as-repeat-requires t c κs =
     let the-optional = c.optional in
     let room = the-pre.1.0 in
     let b = bounded the-number-at.result the-number-at2.result the-number-at3.result (sym the-right.ensures ∙ the-if2.true) in
-    let small = bounded-record the-args.end the-args.left the-one-inside.result (omega (arith, room)) room.few-levels the-one-inside.ensures.within in
-    (b.few-least, rw the-optional.ensures b.few-optional, small)
+    let small = bounded_record the-args.end the-args.left the-one-inside.result (omega (arith, room)) room.few_levels the-one-inside.ensures.within in
+    (b.few_least, rw the-optional.ensures b.few_optional, small)
 
 repeat-returns-2 : (t : ℕ) → repeat-lts.Need-returns-2 (repeat-calls t) (repeat-at t) repeat.Post
 repeat-returns-2 t c =
@@ -426,7 +426,7 @@ repeat-returns-2 t c =
     let s = the-args.s.now in
     let right = sym the-right.ensures ∙ the-if2.true in
     rw the-as-repeat.ensures
-    (repeat-tells (walkRecord the-args.left s) s the-args.at the-args.end the-args.left the-args.before
+    (repeat_tells (walk_record the-args.left s) s the-args.at the-args.end the-args.left the-args.before
     the-pre.1.1 the-number-at.ensures.0 the-number-at2.ensures.0 the-number-at3.ensures.0 (omega arith) right the-optional.ensures the-one-inside.ensures)
 
 repeat-returns-3 : (t : ℕ) → repeat-lts.Need-returns-3 (repeat-calls t) (repeat-at t) repeat.Post
@@ -440,7 +440,7 @@ repeat-returns-3 t c =
     let the-number-at3 = c.before.before.number-at3 in
     let s = the-args.s.now in
     let right = sym the-right.ensures ∙ the-if2.false in
-    refusal (wrong-numbers (walkRecord the-args.left s) s the-args.at the-args.end the-args.left the-args.before
+    refusal (wrong_numbers (walk_record the-args.left s) s the-args.at the-args.end the-args.left the-args.before
     the-pre.1.1 the-number-at.ensures.0 the-number-at2.ensures.0 the-number-at3.ensures.0 (omega arith) right)
 
 -- ---- the one record inside a group or a repeat
@@ -463,7 +463,7 @@ one-inside-returns t c =
     let s = the-args.s.now in
     let room = the-pre.1.0 in
     let told = sym the_number.given.1 ∙ the-any-record.ensures.answer in
-    refusal (inner-fault (walkRecord the-args.left s) s the-args.holder the-args.from the-args.end the-args.before room.ends (fault-of (bodyEnd s the-args.from) the-args.before (walkRecord the-args.left s the-args.from the-args.end the-args.before) told))
+    refusal (inner_fault (walk_record the-args.left s) s the-args.holder the-args.from the-args.end the-args.before room.ends (fault_of (body_end s the-args.from) the-args.before (walk_record the-args.left s the-args.from the-args.end the-args.before) told))
 
 one-inside-returns-2 : (t : ℕ) → one-inside-lts.Need-returns-2 (one-inside-calls t) (one-inside-at t) one_inside.Post
 one-inside-returns-2 t c =
@@ -474,8 +474,8 @@ one-inside-returns-2 t c =
     let s = the-args.s.now in
     let room = the-pre.1.0 in
     let told = sym the-after.given.1 ∙ the-any-record.ensures.answer in
-    let found = tree_of (walkRecord the-args.left s the-args.from the-args.end the-args.before) told in
-    refusal (left_over (walkRecord the-args.left s) s the-args.holder the-args.from the-args.end the-args.before room.ends found.is (omega (arith, found.ends)))
+    let found = tree_of (walk_record the-args.left s the-args.from the-args.end the-args.before) told in
+    refusal (left_over (walk_record the-args.left s) s the-args.holder the-args.from the-args.end the-args.before room.ends found.is (omega (arith, found.ends)))
 
 one-inside-returns-3 : (t : ℕ) → one-inside-lts.Need-returns-3 (one-inside-calls t) (one-inside-at t) one_inside.Post
 one-inside-returns-3 t c =
@@ -488,15 +488,15 @@ one-inside-returns-3 t c =
     let room = the-pre.1.0 in
     let told = sym the-after.given.1 ∙ the-any-record.ensures.answer in
     let within = subst (Within the-args.end the-args.left) the-after.given.1 the-any-record.ensures.within in
-    let found = tree_of (walkRecord the-args.left s the-args.from the-args.end the-args.before) told in
-    single-tells (walkRecord the-args.left s) s the-args.holder the-args.from the-args.end the-args.left the-args.before room.ends found the-if1.false within
+    let found = tree_of (walk_record the-args.left s the-args.from the-args.end the-args.before) told in
+    single_tells (walk_record the-args.left s) s the-args.holder the-args.from the-args.end the-args.left the-args.before room.ends found the-if1.false within
 
 -- ---- the records inside a sequence or an alternation
 
 -- what is left from `next`, joined with what was counted so far, is the answer for the whole holder
 abbrev all-inside-Inv-loop : all-inside-lts.invariant-loop
 all-inside-Inv-loop s at start end left before next₀ count₀ places₀ depth₀ groups₀ next count places depth groups =
-    Left (walkRecord left s) s end left (toldAll before (members_of (walkRecord left s) s at before)) next count places depth groups
+    Left (walk_record left s) s end left (told_all before (members_of (walk_record left s) s at before)) next count places depth groups
 
 abbrev all-inside-μ-loop : all-inside-lts.decreases-loop
 all-inside-μ-loop s at start end left before next₀ count₀ places₀ depth₀ groups₀ next count places depth groups = end - next
@@ -507,7 +507,7 @@ all-inside-loop-holds t c =
     let the-pre = c.before.requires in
     let s = the-args.s.now in
     let room = the-pre.1.0 in
-    begun (walkRecord the-args.left s) s the-args.at the-args.left the-args.before the-pre.1.1 room.ends room.few-groups
+    begun (walk_record the-args.left s) s the-args.at the-args.left the-args.before the-pre.1.1 room.ends room.few_groups
 
 all-inside-any-record-requires : (t : ℕ) → all-inside-lts.Need-any-record-requires (all-inside-calls t) (all-inside-at t) all-inside.Post all-inside-Inv-loop all-inside-μ-loop
 all-inside-any-record-requires t c κs = search rules
@@ -522,7 +522,7 @@ all-inside-returns t c =
     let the-loop = c.before.before.before.before.before.loop in
     let the-loop-test = c.before.before.before.before.loop-test in
     let told = sym the_number.given.1 ∙ the-any-record.ensures.answer in
-    record { answer = bad-one the-loop.invariant the-loop-test.true told; within = tt }
+    record { answer = bad_one the-loop.invariant the-loop-test.true told; within = tt }
 
 all-inside-enum-known-after : (t : ℕ) → all-inside-lts.Need-enum-known-after (all-inside-calls t) (all-inside-at t) all-inside.Post all-inside-Inv-loop all-inside-μ-loop
 all-inside-enum-known-after t c = search rules
@@ -549,7 +549,7 @@ all-inside-loop-less t c =
     let the-loop = c.before.before.before.before.before.before.before.loop in
     let s = the-args.s.now in
     let told = sym the-after.given.1 ∙ the-any-record.ensures.answer in
-    let found = tree_of (walkRecord the-args.left s the-loop.next the-args.end the-loop.groups) told in
+    let found = tree_of (walk_record the-args.left s the-loop.next the-args.end the-loop.groups) told in
     omega (arith, found.ends)
 
 all-inside-loop-again : (t : ℕ) → all-inside-lts.Need-loop-preserved (all-inside-calls t) (all-inside-at t) all-inside.Post all-inside-Inv-loop all-inside-μ-loop
@@ -569,7 +569,7 @@ all-inside-returns-2 : (t : ℕ) → all-inside-lts.Need-returns-2 (all-inside-c
 all-inside-returns-2 t c =
     let the-loop = c.before.loop in
     let the-loop-test = c.loop-test in
-    record { answer = none_more the-loop.invariant the-loop-test.false; within = omega (arith, the-loop.invariant.few-members) }
+    record { answer = none_more the-loop.invariant the-loop-test.false; within = omega (arith, the-loop.invariant.few_members) }
 
 pub +all-inside-any-record-body-group-one-inside-repeat-spec : {M : Type 1} → statement M
 +all-inside-any-record-body-group-one-inside-repeat-spec =

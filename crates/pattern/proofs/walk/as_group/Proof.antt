@@ -1,7 +1,7 @@
 -- `walk::as_group` meets its contract, case by case of what the group holds.
 use mathlib.Core.Path.{subst}
 use native.Mathlib.Omega.{arith}
-use Rattle.paper.specs.Limits.{patternBytes, patternLevels}
+use Rattle.paper.specs.Limits.{pattern_bytes, pattern_levels}
 use Rattle.pattern.specs.Walk.{Within}
 use borrow.Author.Rules.{rules}
 use Rattle.pattern.proofs.walk.as_group.Statement.{statement}
@@ -17,7 +17,7 @@ sum-requires : tie.Need-sum-requires
 sum-requires c κs =
     let the-inner2 = c.before.inner2 in
     let the-pre = c.before.before.before.requires in
-    let h = subst (Within patternBytes patternLevels) the-inner2.given.1 the-pre in omega arith
+    let h = subst (Within pattern_bytes pattern_levels) the-inner2.given.1 the-pre in omega arith
 
 returns : tie.Need-returns
 returns c =
@@ -30,6 +30,6 @@ returns-2 c =
     let the_sum = c.sum in
     rw (the-inner2.given.1, the_sum.ensures)
 
-pub as-group-spec : {M : Type 1} → statement M
-as-group-spec =
+pub as_group_spec : {M : Type 1} → statement M
+as_group_spec =
     tie.close (tie.spec enum-known-inner enum-known-inner-2 sum-requires returns returns-2)

@@ -2,7 +2,7 @@
 use mathlib.Core.Path.{subst}
 use native.Mathlib.Omega.{arith}
 use borrow.Author.Tests.{lt-ltb, le-ltb}
-use Rattle.paper.specs.Limits.{patternBytes, patternLevels}
+use Rattle.paper.specs.Limits.{pattern_bytes, pattern_levels}
 use Rattle.pattern.specs.Walk.{Within}
 use borrow.Author.Rules.{rules}
 use Rattle.pattern.proofs.walk.as_repeat.Statement.{statement}
@@ -18,13 +18,13 @@ passes-requires : tie.Need-passes-requires
 passes-requires c κs =
     let the-inner2 = c.before.inner2 in
     let the-pre = c.before.before.before.requires in
-    let h = subst (Within patternBytes patternLevels) the-inner2.given.1 the-pre.2 in omega arith
+    let h = subst (Within pattern_bytes pattern_levels) the-inner2.given.1 the-pre.2 in omega arith
 
 add-t14 : tie.Need-overflow-add-t14
 add-t14 c =
     let the-inner2 = c.before.before.before.inner2 in
     let the-pre = c.before.before.before.before.before.requires in
-    let h = subst (Within patternBytes patternLevels) the-inner2.given.1 the-pre.2 in omega arith
+    let h = subst (Within pattern_bytes pattern_levels) the-inner2.given.1 the-pre.2 in omega arith
 
 returns : tie.Need-returns
 returns c =
@@ -45,8 +45,8 @@ returns-3 c =
     let the-if1 = c.if1 in
     rw (the-inner2.given.1, the-passes.ensures, le-ltb _ _ the-if1.false)
 
-pub as-repeat-spec : {M : Type 1} → statement M
-as-repeat-spec =
+pub as_repeat_spec : {M : Type 1} → statement M
+as_repeat_spec =
     tie.close
     (tie.spec
     enum-known-inner

@@ -3,7 +3,7 @@ use Prim.Native.Nat.{◌+◌}
 use mathlib.Core.Path.{◌≡◌, subst}
 use native.Mathlib.Omega.{arith}
 use borrow.Author.Tests.{lt-ltb, le-ltb}
-use Rattle.paper.specs.Limits.{patternLevels}
+use Rattle.paper.specs.Limits.{pattern_levels}
 use Rattle.pattern.specs.Walk.{AllWithin, capped}
 use borrow.Author.Rules.{rules}
 use Rattle.pattern.proofs.walk.as_several.Statement.{statement}
@@ -22,7 +22,7 @@ sum-requires : tie.Need-sum-requires
 sum-requires c κs =
     let the-inner2 = c.before.before.before.inner2 in
     let the-pre = c.before.before.before.before.before.requires in
-    let h = subst (AllWithin patternLevels) the-inner2.given.1 the-pre in omega arith
+    let h = subst (AllWithin pattern_levels) the-inner2.given.1 the-pre in omega arith
 
 returns : tie.Need-returns
 returns c =
@@ -49,12 +49,12 @@ returns-4 c =
     let the-if1 = c.before.if1 in
     let the-if2 = c.if2 in
     let places = the-inner2.given.0.1.0 in
-    let h = subst (AllWithin patternLevels) the-inner2.given.1 c.before.before.before.before.before.requires in
+    let h = subst (AllWithin pattern_levels) the-inner2.given.1 c.before.before.before.before.before.requires in
     let e : capped (places + 0) ≡ places = omega arith in
     rw (the-inner2.given.1, le-ltb _ _ the-if1.false, the-if2.false, e)
 
-pub as-several-spec : {M : Type 1} → statement M
-as-several-spec =
+pub as_several_spec : {M : Type 1} → statement M
+as_several_spec =
     tie.close
     (tie.spec
     enum-known-inner

@@ -4,7 +4,7 @@ use lib.ListN.{length}
 use native.Mathlib.Omega.{arith}
 use borrow.Author.Rules.{rules}
 use Rattle.pick.specs.Window.{Grown}
-use Rattle.pick.proofs.Windows.{grown-none, grown-moved, grown-then}
+use Rattle.pick.proofs.Windows.{grown_none, grown_moved, grown_then}
 use Rattle.pick.proofs.window.filled.Statement.{statement}
 use Rattle.pick.proofs.window.filled.Tie as tie
 use Rattle.pick.proofs.window.filled.Reads as reads
@@ -26,7 +26,7 @@ loop-holds c =
     let the-moved = c.before.before.moved in
     let the-buffer = c.before.buffer in (
       refl,
-      grown-none c.before.before.moved.new.0 c.before.before.moved.result.start c.before.before.moved.result.end
+      grown_none c.before.before.moved.new.0 c.before.before.moved.result.start c.before.before.moved.result.end
           (omega (arith, the-moved.ensures.first)) (omega (arith, the-moved.ensures.long, the-buffer.given)),
     )
 
@@ -52,7 +52,7 @@ loop-again c =
     let s = the-more-unless-ended in
     let same : length s.new.0 ≡ length l.buffer = the-buffer2.given in (
       same ∙ l.invariant.0,
-      grown-then m.new.0 l.buffer s.new.0 m.result.start m.result.end l.now.start l.now.end s.result.start s.result.end l.invariant.0 l.invariant.1 s.ensures,
+      grown_then m.new.0 l.buffer s.new.0 m.result.start m.result.end l.now.start l.now.end s.result.start s.result.end l.invariant.0 l.invariant.1 s.ensures,
     )
 
 same_length : tie.Need-same-length invariant-loop decreases-loop
@@ -68,11 +68,11 @@ returns c =
     let a = the-args in
     let m = the-moved in
     let l = the-loop in
-    grown-then a.buffer.now m.new.0 l.buffer a.from.start a.from.end m.result.start m.result.end l.now.start l.now.end the-buffer.given
-    (grown-moved a.buffer.now a.from.start a.from.end m.new.0 m.result.start m.result.end the-pre.1 m.ensures) l.invariant.1
+    grown_then a.buffer.now m.new.0 l.buffer a.from.start a.from.end m.result.start m.result.end l.now.start l.now.end the-buffer.given
+    (grown_moved a.buffer.now a.from.start a.from.end m.new.0 m.result.start m.result.end the-pre.1 m.ensures) l.invariant.1
 
-pub filled-spec : {M : Type 1} → statement M
-filled-spec =
+pub filled_spec : {M : Type 1} → statement M
+filled_spec =
     tie.close
     (tie.spec
     invariant-loop

@@ -1,7 +1,7 @@
 -- `window::more` meets its contract: reading changes nothing before the window's end.
 use Prim.Native.Nat.{◌+◌}
 use native.Mathlib.Omega.{arith}
-use Rattle.pick.proofs.Windows.{grown-read}
+use Rattle.pick.proofs.Windows.{grown_read}
 use borrow.Author.Rules.{rules}
 use Rattle.pick.proofs.window.more.Statement.{statement}
 use Rattle.pick.proofs.window.more.Tie as tie
@@ -27,7 +27,7 @@ returns c =
     let a = the-args in
     let was = a.buffer.now in
     let read = the-read-behind in
-    grown-read was read.new.0 a.from.start a.from.end a.from.end the-pre.0 the-pre.1 the-buffer.given (omega arith) the-pre.1 read.ensures
+    grown_read was read.new.0 a.from.start a.from.end a.from.end the-pre.0 the-pre.1 the-buffer.given (omega arith) the-pre.1 read.ensures
 
 add-t8 : tie.Need-overflow-add-t8
 add-t8 c = search rules
@@ -44,9 +44,9 @@ returns-2 c =
     let a = the-args in
     let was = a.buffer.now in
     let read = the-read-behind in
-    grown-read was read.new.0 a.from.start a.from.end (a.from.end + read.result) the-pre.0 the-pre.1 the-buffer.given (omega arith) (omega (arith, the-buffer.given, the-pre)) read.ensures
+    grown_read was read.new.0 a.from.start a.from.end (a.from.end + read.result) the-pre.0 the-pre.1 the-buffer.given (omega arith) (omega (arith, the-buffer.given, the-pre)) read.ensures
 
-pub more-spec : {M : Type 1} → statement M
-more-spec =
+pub more_spec : {M : Type 1} → statement M
+more_spec =
     tie.close
     (tie.spec read-behind-requires sub-if1 same_length returns add-t8 same-length-2 returns-2)

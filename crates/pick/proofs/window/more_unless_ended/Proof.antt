@@ -1,5 +1,5 @@
 -- `window::more_unless_ended` meets its contract: the window is as it was, or has grown.
-use Rattle.pick.proofs.Windows.{grown-none}
+use Rattle.pick.proofs.Windows.{grown_none}
 use borrow.Author.Rules.{rules}
 use Rattle.pick.proofs.window.more_unless_ended.Statement.{statement}
 use Rattle.pick.proofs.window.more_unless_ended.Tie as tie
@@ -15,7 +15,7 @@ returns : tie.Need-returns
 returns c =
     let the-args = c.before.before.before.args in
     let the-pre = c.before.before.before.requires in
-    grown-none the-args.buffer.now the-args.from.start the-args.from.end the-pre.0 the-pre.1
+    grown_none the-args.buffer.now the-args.from.start the-args.from.end the-pre.0 the-pre.1
 
 more-requires : tie.Need-more-requires
 more-requires c κs = search rules
@@ -26,6 +26,6 @@ same_length c = search rules
 returns-2 : tie.Need-returns-2
 returns-2 c = search rules
 
-pub more-unless-ended-spec : {M : Type 1} → statement M
-more-unless-ended-spec =
+pub more_unless_ended_spec : {M : Type 1} → statement M
+more_unless_ended_spec =
     tie.close (tie.spec enough-requires returns more-requires same_length returns-2)

@@ -4,7 +4,7 @@ use mathlib.Core.Path.{◌≡◌, refl}
 use native.Mathlib.Omega.{arith}
 use lib.ListN.{length}
 use borrow.Author.Rules.{rules}
-use Rattle.pick.proofs.Windows.{Moving, moving-first, moving-more, moving-last}
+use Rattle.pick.proofs.Windows.{Moving, moving_first, moving_more, moving_last}
 use Rattle.pick.proofs.window.moved.Statement.{statement}
 use Rattle.pick.proofs.window.moved.Tie as tie
 use Rattle.pick.proofs.window.moved.Reads as reads
@@ -20,7 +20,7 @@ sub-n : tie.Need-overflow-sub-n invariant-loop decreases-loop
 sub-n c = search rules
 
 loop-holds : tie.Need-loop-init invariant-loop decreases-loop
-loop-holds c = (moving-first c.before.args.buffer.now c.before.args.from.start, omega arith, omega arith)
+loop-holds c = (moving_first c.before.args.buffer.now c.before.args.from.start, omega arith, omega arith)
 
 add-buffer : tie.Need-overflow-add-buffer invariant-loop decreases-loop
 add-buffer c = search rules
@@ -42,7 +42,7 @@ loop-again c =
     let a = c.before.before.before.before.args in
     let l = c.before.before.loop in
     let held = l.invariant in
-    (moving-more a.buffer.now l.buffer a.from.start l.i (omega (arith, held.1)) held.0, held.1, omega arith)
+    (moving_more a.buffer.now l.buffer a.from.start l.i (omega (arith, held.1)) held.0, held.1, omega arith)
 
 same_length : tie.Need-same-length invariant-loop decreases-loop
 same_length c = c.before.loop.invariant.0.same_length
@@ -52,10 +52,10 @@ returns c =
     let a = c.before.before.before.args in
     let l = c.before.loop in
     let n : l.i ≡ a.from.end - a.from.start = omega (arith, l.invariant.2) in
-    moving-last a.buffer.now l.buffer a.from.start a.from.end (a.from.end - a.from.start) refl (rw n at l.invariant.0)
+    moving_last a.buffer.now l.buffer a.from.start a.from.end (a.from.end - a.from.start) refl (rw n at l.invariant.0)
 
-pub moved-spec : {M : Type 1} → statement M
-moved-spec =
+pub moved_spec : {M : Type 1} → statement M
+moved_spec =
     tie.close
     (tie.spec
     invariant-loop

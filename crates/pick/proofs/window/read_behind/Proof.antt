@@ -29,6 +29,6 @@ returns c =
     let was = a.buffer.now in
     take_at (take a.end was) _ a.end (length-take-le a.end was c.before.before.before.before.before.requires)
 
-pub read-behind-spec : {M : Type 1} → statement M
-read-behind-spec =
+pub read_behind_spec : {M : Type 1} → statement M
+read_behind_spec =
     tie.close (tie.spec sub_read part-read-start part-read-end read-requires same_length returns)

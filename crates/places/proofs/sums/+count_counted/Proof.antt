@@ -16,7 +16,7 @@ use Rattle.places.proofs.sums.own_places.Reads as own-places-reads
 use Rattle.records.proofs.number_at.Reads as number-at-reads
 use Rattle.places.proofs.sums.+count_counted.{statement}
 use Rattle.places.proofs.sums.+count_counted.Tie.{close}
-use Rattle.places.proofs.Adding.{Adding, adding-none, first, adding-all, inside-after, read-inside, read-own, read-groups, adding-turn}
+use Rattle.places.proofs.Adding.{Adding, adding_none, first, adding_all, inside_after, read_inside, read_own, read_groups, adding_turn}
 
 abbrev μ-count : Measures 1 count-kinds.ps ℕ
 μ-count κs a = 2 * (a.1.1.0 - a.1.0)
@@ -61,7 +61,7 @@ count-calls t = (
 count-loop-holds : (t : ℕ) → count-lts.Need-loop-init (count-calls t) (count_at t) count.Post count-Inv-loop count-μ-loop
 count-loop-holds t c =
     let the-pre = c.before.requires in
-    adding-none the-pre.1
+    adding_none the-pre.1
 
 count-add-number-at : (t : ℕ) → count-lts.Need-overflow-add-number-at (count-calls t) (count_at t) count.Post count-Inv-loop count-μ-loop
 count-add-number-at t c =
@@ -114,8 +114,8 @@ count-counted-requires t c κs =
     let the-number-at2 = c.before.number-at2 in
     let the-inside-start = c.inside-start in
     let f = first the-pre.1 the-loop.invariant the-loop-test.true in (
-      omega (arith, inside-after the-number-at.result (the-loop.from + 4) (the-loop.from + 4 + the-number-at2.result) (omega arith)),
-      read-inside the-loop.from the-number-at.ensures.0 the-number-at2.ensures.0 the-inside-start.ensures f,
+      omega (arith, inside_after the-number-at.result (the-loop.from + 4) (the-loop.from + 4 + the-number-at2.result) (omega arith)),
+      read_inside the-loop.from the-number-at.ensures.0 the-number-at2.ensures.0 the-inside-start.ensures f,
     )
 
 count-own-places-requires : (t : ℕ) → count-lts.Need-own-places-requires (count-calls t) (count_at t) count.Post count-Inv-loop count-μ-loop
@@ -128,12 +128,12 @@ count-own-places-requires t c κs =
     let the-inside-start = c.before.inside-start in
     let the-counted = c.counted in
     let f = first the-pre.1 the-loop.invariant the-loop-test.true in
-    read-own the-loop.from the-number-at.ensures.0 the-number-at2.ensures.0
+    read_own the-loop.from the-number-at.ensures.0 the-number-at2.ensures.0
     the-inside-start.ensures f the-counted.ensures
 
 count-sum-requires : (t : ℕ) → count-lts.Need-sum-requires (count-calls t) (count_at t) count.Post count-Inv-loop count-μ-loop
 count-sum-requires t c κs =
-    let the-own-places = c.own-places in
+    let the-own-places = c.own_places in
     let the-loop = c.before.before.before.before.before.before.loop in
     omega (arith, the-own-places.ensures.1, the-loop.invariant.small)
 
@@ -147,15 +147,15 @@ count-own-groups-requires t c κs =
     let the-inside-start = c.before.before.before.inside-start in
     let the-counted = c.before.before.counted in
     let f = first the-pre.1 the-loop.invariant the-loop-test.true in
-    read-groups the-loop.from the-number-at.ensures.0 the-number-at2.ensures.0
+    read_groups the-loop.from the-number-at.ensures.0 the-number-at2.ensures.0
     the-inside-start.ensures f the-counted.ensures
 
 count-add-groups : (t : ℕ) → count-lts.Need-overflow-add-groups (count-calls t) (count_at t) count.Post count-Inv-loop count-μ-loop
 count-add-groups t c =
-    let the-own-groups = c.own-groups in
+    let the-own-groups = c.own_groups in
     let the-loop = c.before.before.before.before.before.before.before.before.loop in
     let the-pre = c.before.before.before.before.before.before.before.before.before.before.requires in
-    omega (arith, the-own-groups.ensures.1, (the-loop.invariant.rest the-pre.1).groups-left, the-pre.1.few)
+    omega (arith, the-own-groups.ensures.1, (the-loop.invariant.rest the-pre.1).groups_left, the-pre.1.few)
 
 count-add-records : (t : ℕ) → count-lts.Need-overflow-add-records (count-calls t) (count_at t) count.Post count-Inv-loop count-μ-loop
 count-add-records t c =
@@ -180,17 +180,17 @@ count-loop-again t c =
     let the-pre = c.before.before.before.before.before.before.before.before.before.before.requires in
     let the-loop-test = c.before.before.before.before.before.before.before.loop-test in
     let the-counted = c.before.before.before.counted in
-    let the-own-places = c.before.before.own-places in
+    let the-own-places = c.before.before.own_places in
     let the_sum = c.before.sum in
-    let the-own-groups = c.own-groups in
-    adding-turn the-loop.from the-number-at.ensures.0 the-number-at2.ensures.0 the-inside-start.ensures the-pre.1 the-loop.invariant the-loop-test.true
+    let the-own-groups = c.own_groups in
+    adding_turn the-loop.from the-number-at.ensures.0 the-number-at2.ensures.0 the-inside-start.ensures the-pre.1 the-loop.invariant the-loop-test.true
     the-counted.ensures the-own-places.ensures.0 the_sum.ensures the-own-groups.ensures.0
 
 count-returns : (t : ℕ) → count-lts.Need-returns (count-calls t) (count_at t) count.Post count-Inv-loop count-μ-loop
 count-returns t c =
     let the-loop = c.before.loop in
     let the-loop-test = c.loop-test in
-    adding-all the-loop.invariant the-loop-test.false
+    adding_all the-loop.invariant the-loop-test.false
 
 counted-count-requires : (t : ℕ) → counted-lts.Need-count-requires (count-below t, count.Post) (counted-at t) counted.Post
 counted-count-requires t c κs =
@@ -203,7 +203,7 @@ counted-returns t c = c.count.ensures
 counted-returns-2 : (t : ℕ) → counted-lts.Need-returns-2 (count-below t, count.Post) (counted-at t) counted.Post
 counted-returns-2 t c =
     let the-pre = c.before.before.requires in
-    adding-all (adding-none the-pre.1) c.if1.false
+    adding_all (adding_none the-pre.1) c.if1.false
 
 pub +count-counted-spec : {M : Type 1} → statement M
 +count-counted-spec = close μ-count μ-counted (λ t. count-lts.spec (count-calls t)

@@ -24,5 +24,5 @@ returns-3 c =
     let the-if2 = c.if2 in
     simp (le-ltb _ _ the-if1.false, le-ltb _ _ the-if2.false)
 
-pub inside-start-spec : {M : Type 1} → statement M
-inside-start-spec = tie.close (tie.spec add-result returns returns-2 returns-3)
+pub inside_start_spec : {M : Type 1} → statement M
+inside_start_spec = tie.close (tie.spec add-result returns returns-2 returns-3)

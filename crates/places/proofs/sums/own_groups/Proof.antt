@@ -18,5 +18,5 @@ returns-2 c =
     let the-if1 = c.if1 in
     (simp (ne_eqb _ _ the-if1.false), omega arith)
 
-pub own-groups-spec : {M : Type 1} → statement M
-own-groups-spec = tie.close (tie.spec add-result returns returns-2)
+pub own_groups_spec : {M : Type 1} → statement M
+own_groups_spec = tie.close (tie.spec add-result returns returns-2)

@@ -2,7 +2,7 @@
 use native.Mathlib.Omega.{arith}
 use borrow.Author.Tests.{lt-ltb, le-ltb, eq-eqb, ne_eqb}
 use borrow.Author.Rules.{rules}
-use Rattle.places.proofs.Adding.{own-bounded}
+use Rattle.places.proofs.Adding.{own_bounded}
 use Rattle.places.proofs.sums.own_places.Statement.{statement}
 use Rattle.places.proofs.sums.own_places.Tie as tie
 
@@ -71,7 +71,7 @@ optional-requires c κs =
     let the-number-at = c.before.number_at in
     let the-number-at2 = c.number-at2 in
     let the-pre = c.before.before.before.before.before.before.before.requires in
-    omega (arith, the-number-at.ensures.0, the-number-at2.ensures.0, (own-bounded the-pre (omega arith)).in_order)
+    omega (arith, the-number-at.ensures.0, the-number-at2.ensures.0, (own_bounded the-pre (omega arith)).in_order)
 
 passes-requires : tie.Need-passes-requires
 passes-requires c κs =
@@ -79,10 +79,10 @@ passes-requires c κs =
     let the-number-at2 = c.before.number-at2 in
     let the-optional = c.optional in
     let the-pre = c.before.before.before.before.before.before.before.before.requires in
-    let bounds = own-bounded the-pre (omega arith) in (
-      omega (arith, the-number-at.ensures.0, bounds.few-least),
-      omega (arith, rw (the-number-at.ensures.0, the-number-at2.ensures.0) at the-optional.ensures, bounds.few-optional),
-      the-pre.places-small,
+    let bounds = own_bounded the-pre (omega arith) in (
+      omega (arith, the-number-at.ensures.0, bounds.few_least),
+      omega (arith, rw (the-number-at.ensures.0, the-number-at2.ensures.0) at the-optional.ensures, bounds.few_optional),
+      the-pre.places_small,
     )
 
 returns-6 : tie.Need-returns-6
@@ -100,8 +100,8 @@ returns-6 c =
       omega (arith, the-passes.ensures),
     )
 
-pub own-places-spec : {M : Type 1} → statement M
-own-places-spec =
+pub own_places_spec : {M : Type 1} → statement M
+own_places_spec =
     tie.close
     (tie.spec
     returns

@@ -38,9 +38,9 @@ use Rattle.places.proofs.walk.+chained_forked_headed_one_repeated_row.{statement
 use Rattle.places.proofs.walk.+chained_forked_headed_one_repeated_row.Tie.{close}
 use Rattle.places.specs.Walk.{Several}
 use Rattle.laying.proofs.Entering.{at_least_one}
-use Rattle.places.proofs.Repeats.{counts-ordered, passed-ask, inner-ask, passes-ask, repeat-passes}
-use Rattle.places.proofs.Records.{nothing-to-lay, stop-laid, set-ask, set-laid, group-one, group-two, group-some, group-laid, repeat-ask, repeat-laid, row-ask, row_laid, head-one, head-fits}
-use Rattle.places.proofs.Rows.{last_one, more-counting, more-few, more-inside, chain-sum, chain-one, chain-rest, fork-sum, fork-one, fork-rest, row-header, Along, along-all, along-chain, along-fork, along-last, fork-fits}
+use Rattle.places.proofs.Repeats.{counts_ordered, passed_ask, inner_ask, passes_ask, repeat_passes}
+use Rattle.places.proofs.Records.{nothing_to_lay, stop_laid, set_ask, set_laid, group_one, group_two, group_some, group_laid, repeat_ask, repeat_laid, row_ask, row_laid, head_one, head_fits}
+use Rattle.places.proofs.Rows.{last_one, more_counting, more_few, more_inside, chain_sum, chain_one, chain_rest, fork_sum, fork_one, fork_rest, row_header, Along, along_all, along_chain, along_fork, along_last, fork_fits}
 
 abbrev μ-chained : Measures 2 chained-kinds.ps ℕ
 μ-chained κs a = 4 * (a.1.1.0.stop - a.1.1.0.at) + 1
@@ -110,34 +110,34 @@ chained-calls t = (record-end-reads.Asked, record-end-reads.Learnt, alone-reads.
 chained-record-end-requires : (t : ℕ) → chained-lts.Need-record-end-requires (chained-calls t) (chained-at t) chained.Post chained-Inv-loop chained-μ-loop
 chained-record-end-requires t c κs =
     let the-pre = c.before.before.requires in
-    (omega (arith, row-header the-pre.1.0, the-pre.1.0.ends), the-pre.1.0.short)
+    (omega (arith, row_header the-pre.1.0, the-pre.1.0.ends), the-pre.1.0.short)
 
 chained-loop-holds : (t : ℕ) → chained-lts.Need-loop-init (chained-calls t) (chained-at t) chained.Post chained-Inv-loop chained-μ-loop
 chained-loop-holds t c =
     let the-args = c.before.before.before.args in
     let the-pre = c.before.before.before.requires in
     let the-record-end = c.record-end in
-    along-all the-args.table.now the-pre.1.0 the-record-end.ensures
+    along_all the-args.table.now the-pre.1.0 the-record-end.ensures
 
 chained-alone-requires : (t : ℕ) → chained-lts.Need-alone-requires (chained-calls t) (chained-at t) chained.Post chained-Inv-loop chained-μ-loop
 chained-alone-requires t c κs =
     let the-loop = c.before.loop in
     let the-loop-test = c.loop-test in
-    (more-counting the-loop.invariant.end_is the-loop-test.true the-loop.invariant.row, sym the-loop.invariant.end_is)
+    (more_counting the-loop.invariant.end_is the-loop-test.true the-loop.invariant.row, sym the-loop.invariant.end_is)
 
 chained-add-second : (t : ℕ) → chained-lts.Need-overflow-add-second (chained-calls t) (chained-at t) chained.Post chained-Inv-loop chained-μ-loop
 chained-add-second t c =
     let the-loop = c.before.before.loop in
     let the-loop-test = c.before.loop-test in
     let the-alone = c.alone in
-    omega (arith, the-loop.invariant.row.room, chain-sum the-loop.invariant.end_is the-loop-test.true the-alone.ensures the-loop.invariant.row)
+    omega (arith, the-loop.invariant.row.room, chain_sum the-loop.invariant.end_is the-loop-test.true the-alone.ensures the-loop.invariant.row)
 
 chained-sub-rest : (t : ℕ) → chained-lts.Need-overflow-sub-rest (chained-calls t) (chained-at t) chained.Post chained-Inv-loop chained-μ-loop
 chained-sub-rest t c =
     let the-loop = c.before.before.loop in
     let the-loop-test = c.before.loop-test in
     let the-alone = c.alone in
-    omega (arith, the-loop.invariant.row.room, chain-sum the-loop.invariant.end_is the-loop-test.true the-alone.ensures the-loop.invariant.row)
+    omega (arith, the-loop.invariant.row.room, chain_sum the-loop.invariant.end_is the-loop-test.true the-alone.ensures the-loop.invariant.row)
 
 chained-entered-requires : (t : ℕ) → chained-lts.Need-entered-requires (chained-calls t) (chained-at t) chained.Post chained-Inv-loop chained-μ-loop
 chained-entered-requires t c κs = search rules
@@ -149,9 +149,9 @@ chained-one-requires t c κs =
     let the-loop-test = c.before.before.before.loop-test in
     let the-alone = c.before.before.alone in
     let the-entered = c.before.entered in (
-      omega (arith, the-pre.0, the-loop.invariant.passed, the-loop.invariant.end_is, row-header the-loop.invariant.row),
+      omega (arith, the-pre.0, the-loop.invariant.passed, the-loop.invariant.end_is, row_header the-loop.invariant.row),
       (
-        chain-one the-loop.invariant.end_is the-loop-test.true the-alone.ensures the-entered.result the-entered.ensures the-loop.invariant.row,
+        chain_one the-loop.invariant.end_is the-loop-test.true the-alone.ensures the-entered.result the-entered.ensures the-loop.invariant.row,
         omega (arith, the-loop.invariant.same_length, the-pre.1.1),
       ),
     )
@@ -161,28 +161,28 @@ chained-add-first t c =
     let the-loop = c.before.before.before.before.before.before.before.before.loop in
     let the-loop-test = c.before.before.before.before.before.before.before.loop-test in
     let the-alone = c.before.before.before.before.before.before.alone in
-    omega (arith, more-few the-loop.invariant.end_is the-loop-test.true the-alone.ensures the-loop.invariant.row)
+    omega (arith, more_few the-loop.invariant.end_is the-loop-test.true the-alone.ensures the-loop.invariant.row)
 
 chained-sub-inside : (t : ℕ) → chained-lts.Need-overflow-sub-inside (chained-calls t) (chained-at t) chained.Post chained-Inv-loop chained-μ-loop
 chained-sub-inside t c =
     let the-loop = c.before.before.before.before.before.before.before.before.before.loop in
     let the-loop-test = c.before.before.before.before.before.before.before.before.loop-test in
     let the-alone = c.before.before.before.before.before.before.before.alone in
-    more-inside the-loop.invariant.end_is the-loop-test.true the-alone.ensures the-loop.invariant.row
+    more_inside the-loop.invariant.end_is the-loop-test.true the-alone.ensures the-loop.invariant.row
 
 chained-record-end-requires-2 : (t : ℕ) → chained-lts.Need-record-end-requires-2 (chained-calls t) (chained-at t) chained.Post chained-Inv-loop chained-μ-loop
 chained-record-end-requires-2 t c κs =
     let the-loop = c.before.before.before.before.before.before.before.before.before.loop in
     let the-loop-test = c.before.before.before.before.before.before.before.before.loop-test in
     let the-alone = c.before.before.before.before.before.before.before.alone in (
-      omega (arith, row-header (chain-rest the-loop.invariant.end_is the-loop-test.true the-alone.ensures the-loop.invariant.row), the-loop.invariant.row.ends),
+      omega (arith, row_header (chain_rest the-loop.invariant.end_is the-loop-test.true the-alone.ensures the-loop.invariant.row), the-loop.invariant.row.ends),
       the-loop.invariant.row.short,
     )
 
 chained-loop-less : (t : ℕ) → chained-lts.Need-loop-smaller (chained-calls t) (chained-at t) chained.Post chained-Inv-loop chained-μ-loop
 chained-loop-less t c =
     let the-loop = c.before.before.before.before.before.before.before.before.before.before.loop in
-    omega (arith, the-loop.invariant.end_is, row-header the-loop.invariant.row)
+    omega (arith, the-loop.invariant.end_is, row_header the-loop.invariant.row)
 
 chained-loop-again : (t : ℕ) → chained-lts.Need-loop-preserved (chained-calls t) (chained-at t) chained.Post chained-Inv-loop chained-μ-loop
 chained-loop-again t c =
@@ -192,7 +192,7 @@ chained-loop-again t c =
     let the-entered = c.before.before.before.before.before.before.before.entered in
     let the_one = c.before.before.before.before.before.one in
     let the-record-end2 = c.record-end2 in
-    along-chain the-loop.invariant the-loop-test.true the-alone.ensures the-entered.ensures the_one.ensures the-record-end2.ensures
+    along_chain the-loop.invariant the-loop-test.true the-alone.ensures the-entered.ensures the_one.ensures the-record-end2.ensures
 
 chained-one-requires-2 : (t : ℕ) → chained-lts.Need-one-requires-2 (chained-calls t) (chained-at t) chained.Post chained-Inv-loop chained-μ-loop
 chained-one-requires-2 t c κs =
@@ -217,7 +217,7 @@ chained-returns t c =
     let the-loop = c.before.before.before.before.before.loop in
     let the-loop-test = c.before.before.before.before.loop-test in
     let the-one2 = c.before.before.one2 in
-    along-last the-loop.invariant the-loop-test.false the-one2.ensures
+    along_last the-loop.invariant the-loop-test.false the-one2.ensures
 
 abbrev forked-Inv-loop : forked-lts.invariant-loop
 forked-Inv-loop pattern table₀ base next stop at₀ first₀ left₀ inside₀ from₀ end₀ table at first left inside from end =
@@ -243,48 +243,48 @@ forked-calls t = (
 forked-record-end-requires : (t : ℕ) → forked-lts.Need-record-end-requires (forked-calls t) (forked-at t) forked.Post forked-Inv-loop forked-μ-loop
 forked-record-end-requires t c κs =
     let the-pre = c.before.before.requires in
-    (omega (arith, row-header the-pre.1.0, the-pre.1.0.ends), the-pre.1.0.short)
+    (omega (arith, row_header the-pre.1.0, the-pre.1.0.ends), the-pre.1.0.short)
 
 forked-loop-holds : (t : ℕ) → forked-lts.Need-loop-init (forked-calls t) (forked-at t) forked.Post forked-Inv-loop forked-μ-loop
 forked-loop-holds t c =
     let the-args = c.before.before.before.args in
     let the-pre = c.before.before.before.requires in
     let the-record-end = c.record-end in
-    along-all the-args.table.now the-pre.1.0 the-record-end.ensures
+    along_all the-args.table.now the-pre.1.0 the-record-end.ensures
 
 forked-alone-requires : (t : ℕ) → forked-lts.Need-alone-requires (forked-calls t) (forked-at t) forked.Post forked-Inv-loop forked-μ-loop
 forked-alone-requires t c κs =
     let the-loop = c.before.loop in
     let the-loop-test = c.loop-test in
-    (more-counting the-loop.invariant.end_is the-loop-test.true the-loop.invariant.row, sym the-loop.invariant.end_is)
+    (more_counting the-loop.invariant.end_is the-loop-test.true the-loop.invariant.row, sym the-loop.invariant.end_is)
 
 forked-add-second : (t : ℕ) → forked-lts.Need-overflow-add-second (forked-calls t) (forked-at t) forked.Post forked-Inv-loop forked-μ-loop
 forked-add-second t c =
     let the-loop = c.before.before.loop in
     let the-loop-test = c.before.loop-test in
     let the-alone = c.alone in
-    omega (arith, the-loop.invariant.row.room, fork-sum the-loop.invariant.end_is the-loop-test.true the-alone.ensures the-loop.invariant.row)
+    omega (arith, the-loop.invariant.row.room, fork_sum the-loop.invariant.end_is the-loop-test.true the-alone.ensures the-loop.invariant.row)
 
 forked-add-second-2 : (t : ℕ) → forked-lts.Need-overflow-add-second-2 (forked-calls t) (forked-at t) forked.Post forked-Inv-loop forked-μ-loop
 forked-add-second-2 t c =
     let the-loop = c.before.before.loop in
     let the-loop-test = c.before.loop-test in
     let the-alone = c.alone in
-    omega (arith, the-loop.invariant.row.room, fork-sum the-loop.invariant.end_is the-loop-test.true the-alone.ensures the-loop.invariant.row)
+    omega (arith, the-loop.invariant.row.room, fork_sum the-loop.invariant.end_is the-loop-test.true the-alone.ensures the-loop.invariant.row)
 
 forked-sub-rest : (t : ℕ) → forked-lts.Need-overflow-sub-rest (forked-calls t) (forked-at t) forked.Post forked-Inv-loop forked-μ-loop
 forked-sub-rest t c =
     let the-loop = c.before.before.loop in
     let the-loop-test = c.before.loop-test in
     let the-alone = c.alone in
-    omega (arith, the-loop.invariant.row.room, fork-sum the-loop.invariant.end_is the-loop-test.true the-alone.ensures the-loop.invariant.row)
+    omega (arith, the-loop.invariant.row.room, fork_sum the-loop.invariant.end_is the-loop-test.true the-alone.ensures the-loop.invariant.row)
 
 forked-sub-rest-2 : (t : ℕ) → forked-lts.Need-overflow-sub-rest-2 (forked-calls t) (forked-at t) forked.Post forked-Inv-loop forked-μ-loop
 forked-sub-rest-2 t c =
     let the-loop = c.before.before.loop in
     let the-loop-test = c.before.loop-test in
     let the-alone = c.alone in
-    omega (arith, the-loop.invariant.row.room, fork-sum the-loop.invariant.end_is the-loop-test.true the-alone.ensures the-loop.invariant.row)
+    omega (arith, the-loop.invariant.row.room, fork_sum the-loop.invariant.end_is the-loop-test.true the-alone.ensures the-loop.invariant.row)
 
 forked-add-entered : (t : ℕ) → forked-lts.Need-overflow-add-entered (forked-calls t) (forked-at t) forked.Post forked-Inv-loop forked-μ-loop
 forked-add-entered t c =
@@ -305,7 +305,7 @@ forked-put-requires t c κs =
     let the-entered = c.before.before.entered in
     let the-entered2 = c.entered2 in
     let the-pre = c.before.before.before.before.before.before.before.before.before.requires in
-    fork-fits the-loop.invariant the-loop-test.true the-alone.ensures the-entered.ensures the-entered2.ensures the-pre.1.1
+    fork_fits the-loop.invariant the-loop-test.true the-alone.ensures the-entered.ensures the-entered2.ensures the-pre.1.1
 
 forked-add-one : (t : ℕ) → forked-lts.Need-overflow-add-one (forked-calls t) (forked-at t) forked.Post forked-Inv-loop forked-μ-loop
 forked-add-one t c =
@@ -319,9 +319,9 @@ forked-one-requires t c κs =
     let the-loop-test = c.before.before.before.before.before.before.before.before.loop-test in
     let the-alone = c.before.before.before.before.before.before.before.alone in
     let the-put = c.before.before.before.put in (
-      omega (arith, the-pre.0, the-loop.invariant.passed, the-loop.invariant.end_is, row-header the-loop.invariant.row),
+      omega (arith, the-pre.0, the-loop.invariant.passed, the-loop.invariant.end_is, row_header the-loop.invariant.row),
       (
-        fork-one the-loop.invariant.end_is the-loop-test.true the-alone.ensures the-loop.invariant.row,
+        fork_one the-loop.invariant.end_is the-loop-test.true the-alone.ensures the-loop.invariant.row,
         omega (arith, the-put.ensures.kept.same_length, the-loop.invariant.same_length, the-pre.1.1),
       ),
     )
@@ -331,28 +331,28 @@ forked-add-first t c =
     let the-loop = c.before.before.before.before.before.before.before.before.before.before.before.before.before.loop in
     let the-loop-test = c.before.before.before.before.before.before.before.before.before.before.before.before.loop-test in
     let the-alone = c.before.before.before.before.before.before.before.before.before.before.before.alone in
-    omega (arith, more-few the-loop.invariant.end_is the-loop-test.true the-alone.ensures the-loop.invariant.row)
+    omega (arith, more_few the-loop.invariant.end_is the-loop-test.true the-alone.ensures the-loop.invariant.row)
 
 forked-sub-inside : (t : ℕ) → forked-lts.Need-overflow-sub-inside (forked-calls t) (forked-at t) forked.Post forked-Inv-loop forked-μ-loop
 forked-sub-inside t c =
     let the-loop = c.before.before.before.before.before.before.before.before.before.before.before.before.before.before.loop in
     let the-loop-test = c.before.before.before.before.before.before.before.before.before.before.before.before.before.loop-test in
     let the-alone = c.before.before.before.before.before.before.before.before.before.before.before.before.alone in
-    more-inside the-loop.invariant.end_is the-loop-test.true the-alone.ensures the-loop.invariant.row
+    more_inside the-loop.invariant.end_is the-loop-test.true the-alone.ensures the-loop.invariant.row
 
 forked-record-end-requires-2 : (t : ℕ) → forked-lts.Need-record-end-requires-2 (forked-calls t) (forked-at t) forked.Post forked-Inv-loop forked-μ-loop
 forked-record-end-requires-2 t c κs =
     let the-loop = c.before.before.before.before.before.before.before.before.before.before.before.before.before.before.loop in
     let the-loop-test = c.before.before.before.before.before.before.before.before.before.before.before.before.before.loop-test in
     let the-alone = c.before.before.before.before.before.before.before.before.before.before.before.before.alone in (
-      omega (arith, row-header (fork-rest the-loop.invariant.end_is the-loop-test.true the-alone.ensures the-loop.invariant.row), the-loop.invariant.row.ends),
+      omega (arith, row_header (fork_rest the-loop.invariant.end_is the-loop-test.true the-alone.ensures the-loop.invariant.row), the-loop.invariant.row.ends),
       the-loop.invariant.row.short,
     )
 
 forked-loop-less : (t : ℕ) → forked-lts.Need-loop-smaller (forked-calls t) (forked-at t) forked.Post forked-Inv-loop forked-μ-loop
 forked-loop-less t c =
     let the-loop = c.before.before.before.before.before.before.before.before.before.before.before.before.before.before.before.loop in
-    omega (arith, the-loop.invariant.end_is, row-header the-loop.invariant.row)
+    omega (arith, the-loop.invariant.end_is, row_header the-loop.invariant.row)
 
 forked-loop-again : (t : ℕ) → forked-lts.Need-loop-preserved (forked-calls t) (forked-at t) forked.Post forked-Inv-loop forked-μ-loop
 forked-loop-again t c =
@@ -364,7 +364,7 @@ forked-loop-again t c =
     let the-put = c.before.before.before.before.before.before.before.before.before.put in
     let the_one = c.before.before.before.before.before.one in
     let the-record-end2 = c.record-end2 in
-    along-fork the-loop.invariant the-loop-test.true the-alone.ensures the-entered.ensures the-entered2.ensures the-put.ensures the_one.ensures
+    along_fork the-loop.invariant the-loop-test.true the-alone.ensures the-entered.ensures the-entered2.ensures the-put.ensures the_one.ensures
     the-record-end2.ensures
 
 forked-one-requires-2 : (t : ℕ) → forked-lts.Need-one-requires-2 (forked-calls t) (forked-at t) forked.Post forked-Inv-loop forked-μ-loop
@@ -390,7 +390,7 @@ forked-returns t c =
     let the-loop = c.before.before.before.before.before.loop in
     let the-loop-test = c.before.before.before.before.loop-test in
     let the-one2 = c.before.before.one2 in
-    along-last the-loop.invariant the-loop-test.false the-one2.ensures
+    along_last the-loop.invariant the-loop-test.false the-one2.ensures
 
 abbrev headed-calls : ℕ → headed-lts.Claims
 headed-calls t = (entered-reads.Asked, entered-reads.Learnt, put_reads.Asked, put_reads.Learnt, one_below t, one.Post)
@@ -407,7 +407,7 @@ headed-put-requires : (t : ℕ) → headed-lts.Need-put-requires (headed-calls t
 headed-put-requires t c κs =
     let the-pre = c.before.before.before.before.requires in
     let the-entered = c.entered in
-    head-fits the-pre.1.0 the-pre.1.1.0 the-pre.1.1.1 the-entered.ensures
+    head_fits the-pre.1.0 the-pre.1.1.0 the-pre.1.1.1 the-entered.ensures
 
 headed-add-one : (t : ℕ) → headed-lts.Need-overflow-add-one (headed-calls t) (headed-at t) headed.Post
 headed-add-one t c =
@@ -432,7 +432,7 @@ headed-returns t c =
     let the-pre = c.before.before.before.before.before.before.before.before.before.before.before.requires in
     let the-put = c.before.before.before.before.before.before.put in
     let the_one = c.before.before.one in
-    head-one the-entered.ensures the-pre.1.1.0 the-put.ensures the_one.ensures
+    head_one the-entered.ensures the-pre.1.1.0 the-put.ensures the_one.ensures
 
 abbrev one-calls : ℕ → one-lts.Claims
 one-calls t = (
@@ -469,7 +469,7 @@ one-put-requires : (t : ℕ) → one-lts.Need-put-requires (one-calls t) (one_at
 one-put-requires t c κs =
     let the-if1 = c.before.before.if1 in
     let the-pre = c.before.before.before.before.before.before.requires in
-    record { room = omega (arith, at_least_one the-if1.false, the-pre.1.0.room, the-pre.1.1); next_fits = omega arith; a-fits = omega arith; n-fits = omega arith }
+    record { room = omega (arith, at_least_one the-if1.false, the-pre.1.0.room, the-pre.1.1); next_fits = omega arith; a_fits = omega arith; n_fits = omega arith }
 
 one-set-place-requires : (t : ℕ) → one-lts.Need-set-place-requires (one-calls t) (one_at t) one.Post
 one-set-place-requires t c κs =
@@ -477,28 +477,28 @@ one-set-place-requires t c κs =
     let the-if1 = c.before.before.before.if1 in
     let the-number-at = c.before.before.before.before.number_at in
     let the-if3 = c.before.if3 in
-    (set-ask the-pre.1.0 the-if1.false the-number-at.ensures.0 the-if3.true, the-pre.1.1)
+    (set_ask the-pre.1.0 the-if1.false the-number-at.ensures.0 the-if3.true, the-pre.1.1)
 
 one-add-close : (t : ℕ) → one-lts.Need-overflow-add-close (one-calls t) (one_at t) one.Post
 one-add-close t c =
     let the-pre = c.before.before.before.before.before.before.before.requires in
     let the-number-at = c.before.before.before.before.number_at in
     let the-if4 = c.if4 in
-    omega (arith, the-pre.1.0.room, group-two the-pre.1.0 the-number-at.ensures.0 the-if4.true)
+    omega (arith, the-pre.1.0.room, group_two the-pre.1.0 the-number-at.ensures.0 the-if4.true)
 
 one-sub-close : (t : ℕ) → one-lts.Need-overflow-sub-close (one-calls t) (one_at t) one.Post
 one-sub-close t c =
     let the-pre = c.before.before.before.before.before.before.before.requires in
     let the-number-at = c.before.before.before.before.number_at in
     let the-if4 = c.if4 in
-    group-two the-pre.1.0 the-number-at.ensures.0 the-if4.true
+    group_two the-pre.1.0 the-number-at.ensures.0 the-if4.true
 
 one-add-close-2 : (t : ℕ) → one-lts.Need-overflow-add-close-2 (one-calls t) (one_at t) one.Post
 one-add-close-2 t c =
     let the-pre = c.before.before.before.before.before.before.before.requires in
     let the-number-at = c.before.before.before.before.number_at in
     let the-if4 = c.if4 in
-    omega (arith, the-pre.1.0.room, group-two the-pre.1.0 the-number-at.ensures.0 the-if4.true)
+    omega (arith, the-pre.1.0.room, group_two the-pre.1.0 the-number-at.ensures.0 the-if4.true)
 
 one-add-t27 : (t : ℕ) → one-lts.Need-overflow-add-t27 (one-calls t) (one_at t) one.Post
 one-add-t27 t c =
@@ -510,14 +510,14 @@ one-sub-t28 t c =
     let the-pre = c.before.before.before.before.before.before.before.requires in
     let the-number-at = c.before.before.before.before.number_at in
     let the-if4 = c.if4 in
-    group-two the-pre.1.0 the-number-at.ensures.0 the-if4.true
+    group_two the-pre.1.0 the-number-at.ensures.0 the-if4.true
 
 one-sub-t29 : (t : ℕ) → one-lts.Need-overflow-sub-t29 (one-calls t) (one_at t) one.Post
 one-sub-t29 t c =
     let the-pre = c.before.before.before.before.before.before.before.requires in
     let the-number-at = c.before.before.before.before.number_at in
     let the-if4 = c.if4 in
-    group-some the-pre.1.0 the-number-at.ensures.0 the-if4.true
+    group_some the-pre.1.0 the-number-at.ensures.0 the-if4.true
 
 one-headed-requires : (t : ℕ) → one-lts.Need-headed-requires (one-calls t) (one_at t) one.Post
 one-headed-requires t c κs =
@@ -526,8 +526,8 @@ one-headed-requires t c κs =
     let the-if4 = c.before.if4 in (
       omega (arith, the-pre.0, the-pre.1.0.inside.end_is, the-pre.1.0.inside.ends, the-pre.1.0.inside.short),
       (
-        group-one the-pre.1.0 the-number-at.ensures.0 the-if4.true,
-        (record { no-set = omega arith; a_small = omega (arith, the-pre.1.0.inside.few); n-small = omega arith }, the-pre.1.1),
+        group_one the-pre.1.0 the-number-at.ensures.0 the-if4.true,
+        (record { no_set = omega arith; a_small = omega (arith, the-pre.1.0.inside.few); n_small = omega arith }, the-pre.1.1),
       ),
     )
 
@@ -541,13 +541,13 @@ one-put-requires-2 t c κs =
       room = omega (
         arith,
         the-pre.1.0.room,
-        group-two the-pre.1.0 the-number-at.ensures.0 the-if4.true,
+        group_two the-pre.1.0 the-number-at.ensures.0 the-if4.true,
         the-headed.ensures.kept.same_length,
         the-pre.1.1,
       );
       next_fits = omega (arith, the-pre.1.0.follows);
-      a-fits = omega (arith, the-pre.1.0.inside.few);
-      n-fits = omega arith;
+      a_fits = omega (arith, the-pre.1.0.inside.few);
+      n_fits = omega arith;
     }
 
 one-repeated-requires : (t : ℕ) → one-lts.Need-repeated-requires (one-calls t) (one_at t) one.Post
@@ -557,7 +557,7 @@ one-repeated-requires t c κs =
     let the-number-at = c.before.before.before.before.before.before.number_at in
     let the-if5 = c.before.if5 in (
       omega (arith, the-pre.0, the-pre.1.0.inside.end_is, the-pre.1.0.inside.ends, the-pre.1.0.inside.short),
-      (repeat-ask the-pre.1.0 the-if1.false the-number-at.ensures.0 the-if5.true, the-pre.1.1),
+      (repeat_ask the-pre.1.0 the-if1.false the-number-at.ensures.0 the-if5.true, the-pre.1.1),
     )
 
 one-row-requires : (t : ℕ) → one-lts.Need-row-requires (one-calls t) (one_at t) one.Post
@@ -570,13 +570,13 @@ one-row-requires t c κs =
     let the-if4 = c.before.before.if4 in
     let the-if5 = c.before.if5 in (
       omega (arith, the-pre.0, the-pre.1.0.inside.end_is, the-pre.1.0.inside.ends, the-pre.1.0.inside.short),
-      (row-ask the-if1.false the-number-at.ensures.0 the-if2.false the-if3.false the-if4.false the-if5.false the-pre.1.0, the-pre.1.1),
+      (row_ask the-if1.false the-number-at.ensures.0 the-if2.false the-if3.false the-if4.false the-if5.false the-pre.1.0, the-pre.1.1),
     )
 
 one-returns : (t : ℕ) → one-lts.Need-returns (one-calls t) (one_at t) one.Post
 one-returns t c =
     let the-if1 = c.if1 in
-    nothing-to-lay the-if1.true
+    nothing_to_lay the-if1.true
 
 one-same-length : (t : ℕ) → one-lts.Need-same-length (one-calls t) (one_at t) one.Post
 one-same-length t c =
@@ -589,7 +589,7 @@ one-returns-2 t c =
     let the-number-at = c.before.before.before.before.before.before.number_at in
     let the-if2 = c.before.before.before.before.if2 in
     let the-put = c.before.before.put in
-    stop-laid the-if1.false the-number-at.ensures.0 the-if2.true the-put.ensures
+    stop_laid the-if1.false the-number-at.ensures.0 the-if2.true the-put.ensures
 
 one-same-length-2 : (t : ℕ) → one-lts.Need-same-length-2 (one-calls t) (one_at t) one.Post
 one-same-length-2 t c =
@@ -602,7 +602,7 @@ one-returns-3 t c =
     let the-number-at = c.before.before.before.before.before.before.before.number_at in
     let the-if3 = c.before.before.before.before.if3 in
     let the-set-place = c.before.before.set-place in
-    set-laid the-if1.false the-number-at.ensures.0 the-if3.true the-set-place.ensures
+    set_laid the-if1.false the-number-at.ensures.0 the-if3.true the-set-place.ensures
 
 one-same-length-3 : (t : ℕ) → one-lts.Need-same-length-3 (one-calls t) (one_at t) one.Post
 one-same-length-3 t c =
@@ -617,7 +617,7 @@ one-returns-4 t c =
     let the-if4 = c.before.before.before.before.before.before.before.before.if4 in
     let the-headed = c.before.before.before.before.before.before.headed in
     let the-put2 = c.before.before.put2 in
-    group-laid the-pre.1.0 the-number-at.ensures.0 the-if4.true the-headed.ensures the-put2.ensures
+    group_laid the-pre.1.0 the-number-at.ensures.0 the-if4.true the-headed.ensures the-put2.ensures
 
 one-same-length-4 : (t : ℕ) → one-lts.Need-same-length-4 (one-calls t) (one_at t) one.Post
 one-same-length-4 t c =
@@ -630,7 +630,7 @@ one-returns-5 t c =
     let the-number-at = c.before.before.before.before.before.before.before.before.before.number_at in
     let the-if5 = c.before.before.before.before.if5 in
     let the-repeated = c.before.before.repeated in
-    repeat-laid the-if1.false the-number-at.ensures.0 the-if5.true the-repeated.ensures
+    repeat_laid the-if1.false the-number-at.ensures.0 the-if5.true the-repeated.ensures
 
 one-same-length-5 : (t : ℕ) → one-lts.Need-same-length-5 (one-calls t) (one_at t) one.Post
 one-same-length-5 t c =
@@ -700,7 +700,7 @@ repeated-optional-requires t c κs =
     let the-number-at = c.before.before.number_at in
     let the-number-at2 = c.before.number-at2 in
     let the-number-at3 = c.number-at3 in
-    counts-ordered the-pre.1.0 the-number-at.ensures.0 the-number-at2.ensures.0 the-number-at3.ensures.0
+    counts_ordered the-pre.1.0 the-number-at.ensures.0 the-number-at2.ensures.0 the-number-at3.ensures.0
 
 repeated-inner-places-requires : (t : ℕ) → repeated-lts.Need-inner-places-requires (repeated-calls t) (repeated-at t) repeated.Post
 repeated-inner-places-requires t c κs =
@@ -709,7 +709,7 @@ repeated-inner-places-requires t c κs =
     let the-number-at2 = c.before.before.number-at2 in
     let the-number-at3 = c.before.number-at3 in
     let the-optional = c.optional in
-    passed-ask the-pre.1.0 the-number-at.ensures.0 the-number-at2.ensures.0 the-number-at3.ensures.0 the-optional.ensures
+    passed_ask the-pre.1.0 the-number-at.ensures.0 the-number-at2.ensures.0 the-number-at3.ensures.0 the-optional.ensures
 
 repeated-inner-start-requires : (t : ℕ) → repeated-lts.Need-inner-start-requires (repeated-calls t) (repeated-at t) repeated.Post
 repeated-inner-start-requires t c κs =
@@ -730,7 +730,7 @@ repeated-add-one t c =
       the-pre.1.0.inside.end_is,
       the-pre.1.0.inside.ends,
       the-pre.1.0.inside.short,
-      (inner-ask the-pre.1.0 the-number-at.ensures.0 the-number-at2.ensures.0 the-number-at3.ensures.0 the-optional.ensures the-inner-places.ensures
+      (inner_ask the-pre.1.0 the-number-at.ensures.0 the-number-at2.ensures.0 the-number-at3.ensures.0 the-optional.ensures the-inner-places.ensures
           the-inner-start.ensures).room,
     )
 
@@ -748,7 +748,7 @@ repeated-add-one-2 t c =
       the-pre.1.0.inside.end_is,
       the-pre.1.0.inside.ends,
       the-pre.1.0.inside.short,
-      (inner-ask the-pre.1.0 the-number-at.ensures.0 the-number-at2.ensures.0 the-number-at3.ensures.0 the-optional.ensures the-inner-places.ensures
+      (inner_ask the-pre.1.0 the-number-at.ensures.0 the-number-at2.ensures.0 the-number-at3.ensures.0 the-optional.ensures the-inner-places.ensures
           the-inner-start.ensures).room,
     )
 
@@ -763,7 +763,7 @@ repeated-one-requires t c κs =
     let the-inner-start = c.before.inner_start in (
       omega (arith, the-pre.0, the-pre.1.0.inside.end_is),
       (
-        inner-ask the-pre.1.0 the-number-at.ensures.0 the-number-at2.ensures.0 the-number-at3.ensures.0
+        inner_ask the-pre.1.0 the-number-at.ensures.0 the-number-at2.ensures.0 the-number-at3.ensures.0
             the-optional.ensures the-inner-places.ensures the-inner-start.ensures,
         the-pre.1.1,
       ),
@@ -779,7 +779,7 @@ repeated-passes-requires t c κs =
     let the-inner-places = c.before.before.before.before.before.before.inner-places in
     let the-inner-start = c.before.before.before.before.before.inner_start in
     let the_one = c.before.before.before.one in (
-      passes-ask the-pre.1.0 the-number-at.ensures.0 the-number-at2.ensures.0 the-number-at3.ensures.0 the-optional.ensures the-inner-places.ensures
+      passes_ask the-pre.1.0 the-number-at.ensures.0 the-number-at2.ensures.0 the-number-at3.ensures.0 the-optional.ensures the-inner-places.ensures
           the-inner-start.ensures,
       omega (arith, the_one.ensures.kept.same_length, the-pre.1.1),
     )
@@ -801,7 +801,7 @@ repeated-returns t c =
     let the-inner-start = c.before.before.before.before.before.before.before.before.inner_start in
     let the_one = c.before.before.before.before.before.before.one in
     let the-passes = c.before.before.passes in
-    repeat-passes the-pre.1.0 the-number-at.ensures.0 the-number-at2.ensures.0 the-number-at3.ensures.0 the-optional.ensures the-inner-places.ensures
+    repeat_passes the-pre.1.0 the-number-at.ensures.0 the-number-at2.ensures.0 the-number-at3.ensures.0 the-optional.ensures the-inner-places.ensures
     the-inner-start.ensures the_one.ensures the-passes.ensures
 
 abbrev row-calls : ℕ → row-lts.Claims

@@ -61,8 +61,8 @@ same-length-3 c = search rules
 returns-3 : tie.Need-returns-3 invariant-loop decreases-loop
 returns-3 c = inl (search rules)
 
-pub read-full-spec : {M : Type 1} → statement M
-read-full-spec =
+pub read_full_spec : {M : Type 1} → statement M
+read_full_spec =
     tie.close
     (tie.spec
     invariant-loop

@@ -3,7 +3,7 @@ use mathlib.Core.Path.{refl}
 use mathlib.Core.Bool.{cond}
 use native.Mathlib.Omega.{arith}
 use borrow.Author.Rules.{rules}
-use Rattle.replacer.proofs.Scanning.{Kept, kept-start, kept_on, runs_on, ready-lawful, Summing, sum-start, sum_more, sum-end, sum_fits, ahead, turns-ahead, turns_fit}
+use Rattle.replacer.proofs.Scanning.{Kept, kept_start, kept_on, runs_on, ready_lawful, Summing, sum_start, sum_more, sum_end, sum_fits, ahead, turns_ahead, turns_fit}
 use Rattle.replacer.proofs.scans.measure.Statement.{statement}
 use Rattle.replacer.proofs.scans.measure.Tie as tie
 
@@ -18,7 +18,7 @@ decreases-loop pattern code places depth template line seen₀ taken₀ lists₀
 loop-holds : tie.Need-loop-init invariant-loop decreases-loop
 loop-holds c =
     let the-pre = c.before.before.before.before.before.before.before.before.requires in
-    (kept-start, sum-start the-pre.1.short)
+    (kept_start, sum_start the-pre.1.short)
 
 search-turn-requires : tie.Need-search-turn-requires invariant-loop decreases-loop
 search-turn-requires c κs =
@@ -31,7 +31,7 @@ turn-length-requires : tie.Need-turn-length-requires invariant-loop decreases-lo
 turn-length-requires c κs =
     let the-pre = c.before.before.before.before.before.before.before.before.before.before.before.before.before.before.before.before.before.before.before.before.before.before.before.requires in
     let the-loop = c.before.before.before.before.before.before.before.before.before.before.before.before.before.before.loop in
-    let the-search-turn = c.before.before.before.before.before.before.before.before.search-turn in
+    let the-search-turn = c.before.before.before.before.before.before.before.before.search_turn in
     let the-loop-test = c.before.before.before.before.before.before.before.before.before.before.before.before.before.loop-test in
     (the-pre.0, turns_fit the-pre.1.short the-search-turn.ensures (the-loop.invariant.1.inside the-loop-test.true), the-pre.1.short)
 
@@ -40,10 +40,10 @@ add_total c =
     let the-pre = c.before.before.before.before.before.before.before.before.before.before.before.before.before.before.before.before.before.before.before.before.before.before.before.before.requires in
     let the-loop = c.before.before.before.before.before.before.before.before.before.before.before.before.before.before.before.loop in
     let the-loop-test = c.before.before.before.before.before.before.before.before.before.before.before.before.before.before.loop-test in
-    let the-search-turn = c.before.before.before.before.before.before.before.before.before.search-turn in
+    let the-search-turn = c.before.before.before.before.before.before.before.before.before.search_turn in
     let the-turn-length = c.turn-length in
     let next = sum_more the-pre.1.short the-loop-test.true the-loop.invariant.1 the-search-turn.ensures the-turn-length.ensures {ones = cond the-search-turn.result.put 1 0} refl in
-    omega (arith, sum_fits the-pre.1.short the-pre.0 (ready-lawful the-pre.1.ready) next)
+    omega (arith, sum_fits the-pre.1.short the-pre.0 (ready_lawful the-pre.1.ready) next)
 
 counted-requires : tie.Need-counted-requires invariant-loop decreases-loop
 counted-requires c κs = search rules
@@ -53,11 +53,11 @@ add-replacements c =
     let the-pre = c.before.before.before.before.before.before.before.before.before.before.before.before.before.before.before.before.before.before.before.before.before.before.before.before.before.requires in
     let the-loop = c.before.before.before.before.before.before.before.before.before.before.before.before.before.before.before.before.loop in
     let the-loop-test = c.before.before.before.before.before.before.before.before.before.before.before.before.before.before.before.loop-test in
-    let the-search-turn = c.before.before.before.before.before.before.before.before.before.before.search-turn in
+    let the-search-turn = c.before.before.before.before.before.before.before.before.before.before.search_turn in
     let the-turn-length = c.before.turn-length in
     let the-counted = c.counted in
     let next = sum_more the-pre.1.short the-loop-test.true the-loop.invariant.1 the-search-turn.ensures the-turn-length.ensures the-counted.ensures in
-    omega (arith, sum_fits the-pre.1.short the-pre.0 (ready-lawful the-pre.1.ready) next)
+    omega (arith, sum_fits the-pre.1.short the-pre.0 (ready_lawful the-pre.1.ready) next)
 
 cast-steps : tie.Need-overflow-cast-steps invariant-loop decreases-loop
 cast-steps c = search rules
@@ -67,23 +67,23 @@ add-steps c =
     let the-pre = c.before.before.before.before.before.before.before.before.before.before.before.before.before.before.before.before.before.before.before.before.before.before.before.before.before.before.requires in
     let the-loop = c.before.before.before.before.before.before.before.before.before.before.before.before.before.before.before.before.before.loop in
     let the-loop-test = c.before.before.before.before.before.before.before.before.before.before.before.before.before.before.before.before.loop-test in
-    let the-search-turn = c.before.before.before.before.before.before.before.before.before.before.before.search-turn in
+    let the-search-turn = c.before.before.before.before.before.before.before.before.before.before.before.search_turn in
     let the-turn-length = c.before.before.turn-length in
     let the-counted = c.before.counted in
     let next = sum_more the-pre.1.short the-loop-test.true the-loop.invariant.1 the-search-turn.ensures the-turn-length.ensures the-counted.ensures in
-    omega (arith, sum_fits the-pre.1.short the-pre.0 (ready-lawful the-pre.1.ready) next)
+    omega (arith, sum_fits the-pre.1.short the-pre.0 (ready_lawful the-pre.1.ready) next)
 
 loop-less : tie.Need-loop-smaller invariant-loop decreases-loop
 loop-less c =
     let the-loop = c.before.before.before.before.before.before.before.before.before.before.before.before.before.before.before.before.before.loop in
-    let the-search-turn = c.before.before.before.before.before.before.before.before.before.before.before.search-turn in
+    let the-search-turn = c.before.before.before.before.before.before.before.before.before.before.before.search_turn in
     let the-loop-test = c.before.before.before.before.before.before.before.before.before.before.before.before.before.before.before.before.loop-test in
     let the-pre = c.before.before.before.before.before.before.before.before.before.before.before.before.before.before.before.before.before.before.before.before.before.before.before.before.before.before.requires in
-    turns-ahead the-pre.1.short the-search-turn.ensures (the-loop.invariant.1.inside the-loop-test.true) the-loop-test.true
+    turns_ahead the-pre.1.short the-search-turn.ensures (the-loop.invariant.1.inside the-loop-test.true) the-loop-test.true
 
 loop-again : tie.Need-loop-preserved invariant-loop decreases-loop
 loop-again c =
-    let the-search-turn = c.before.before.before.before.before.before.before.before.before.before.before.search-turn in
+    let the-search-turn = c.before.before.before.before.before.before.before.before.before.before.before.search_turn in
     let the-loop = c.before.before.before.before.before.before.before.before.before.before.before.before.before.before.before.before.before.loop in
     let the-pre = c.before.before.before.before.before.before.before.before.before.before.before.before.before.before.before.before.before.before.before.before.before.before.before.before.before.before.requires in
     let the-loop-test = c.before.before.before.before.before.before.before.before.before.before.before.before.before.before.before.before.loop-test in
@@ -119,10 +119,10 @@ returns c =
     let the-pre = c.before.before.before.before.before.before.before.before.before.before.requires in
     let the-loop = c.before.loop in
     let the-loop-test = c.loop-test in
-    sum-end the-pre.1.short the-loop-test.false the-loop.invariant.1
+    sum_end the-pre.1.short the-loop-test.false the-loop.invariant.1
 
-pub measure-spec : {M : Type 1} → statement M
-measure-spec =
+pub measure_spec : {M : Type 1} → statement M
+measure_spec =
     tie.close
     (tie.spec
     invariant-loop

@@ -1,5 +1,5 @@
 -- `replacer::scans::write` meets its contract: what is written and what the scan gives from here on make up the whole at each turn.
-use Rattle.replacer.proofs.Scanning.{Kept, kept-start, kept_on, runs_on, Filling, fill_start, fill-room, fill_more, fill_end, ahead, turns-ahead, turns_fit}
+use Rattle.replacer.proofs.Scanning.{Kept, kept_start, kept_on, runs_on, Filling, fill_start, fill_room, fill_more, fill_end, ahead, turns_ahead, turns_fit}
 use Rattle.replacer.proofs.scans.write.Statement.{statement}
 use Rattle.replacer.proofs.scans.write.Tie as tie
 
@@ -14,7 +14,7 @@ decreases-loop pattern code places depth template line seen₀ taken₀ lists₀
 loop-holds : tie.Need-loop-init invariant-loop decreases-loop
 loop-holds c =
     let the-pre = c.before.before.before.before.before.before.before.before.before.requires in
-    (kept-start, fill_start the-pre.1.short)
+    (kept_start, fill_start the-pre.1.short)
 
 search-turn-requires : tie.Need-search-turn-requires invariant-loop decreases-loop
 search-turn-requires c κs =
@@ -27,21 +27,21 @@ write-turn-requires : tie.Need-write-turn-requires invariant-loop decreases-loop
 write-turn-requires c κs =
     let the-pre = c.before.before.before.before.before.before.before.before.before.before.before.before.before.before.before.before.before.before.before.before.before.before.before.before.before.requires in
     let the-loop = c.before.before.before.before.before.before.before.before.before.before.before.before.before.before.before.loop in
-    let the-search-turn = c.before.before.before.before.before.before.before.before.before.search-turn in
+    let the-search-turn = c.before.before.before.before.before.before.before.before.before.search_turn in
     let the-loop-test = c.before.before.before.before.before.before.before.before.before.before.before.before.before.before.loop-test in
-    (the-pre.0, turns_fit the-pre.1.short the-search-turn.ensures (the-loop.invariant.1.inside the-loop-test.true), the-pre.1.short, fill-room the-pre.1.short the-loop-test.true the-loop.invariant.1 the-search-turn.ensures the-pre.2)
+    (the-pre.0, turns_fit the-pre.1.short the-search-turn.ensures (the-loop.invariant.1.inside the-loop-test.true), the-pre.1.short, fill_room the-pre.1.short the-loop-test.true the-loop.invariant.1 the-search-turn.ensures the-pre.2)
 
 loop-less : tie.Need-loop-smaller invariant-loop decreases-loop
 loop-less c =
     let the-loop = c.before.before.before.before.before.before.before.before.before.before.before.before.before.before.before.before.before.before.loop in
-    let the-search-turn = c.before.before.before.before.before.before.before.before.before.before.before.before.search-turn in
+    let the-search-turn = c.before.before.before.before.before.before.before.before.before.before.before.before.search_turn in
     let the-loop-test = c.before.before.before.before.before.before.before.before.before.before.before.before.before.before.before.before.before.loop-test in
     let the-pre = c.before.before.before.before.before.before.before.before.before.before.before.before.before.before.before.before.before.before.before.before.before.before.before.before.before.before.before.before.requires in
-    turns-ahead the-pre.1.short the-search-turn.ensures (the-loop.invariant.1.inside the-loop-test.true) the-loop-test.true
+    turns_ahead the-pre.1.short the-search-turn.ensures (the-loop.invariant.1.inside the-loop-test.true) the-loop-test.true
 
 loop-again : tie.Need-loop-preserved invariant-loop decreases-loop
 loop-again c =
-    let the-search-turn = c.before.before.before.before.before.before.before.before.before.before.before.before.search-turn in
+    let the-search-turn = c.before.before.before.before.before.before.before.before.before.before.before.before.search_turn in
     let the-loop = c.before.before.before.before.before.before.before.before.before.before.before.before.before.before.before.before.before.before.loop in
     let the-pre = c.before.before.before.before.before.before.before.before.before.before.before.before.before.before.before.before.before.before.before.before.before.before.before.before.before.before.before.before.requires in
     let the-loop-test = c.before.before.before.before.before.before.before.before.before.before.before.before.before.before.before.before.before.loop-test in

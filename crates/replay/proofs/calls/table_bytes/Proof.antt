@@ -79,8 +79,8 @@ same-length-2 c = search rules
 returns-2 : tie.Need-returns-2 invariant-loop decreases-loop
 returns-2 c = search rules
 
-pub table-bytes-spec : {M : Type 1} → statement M
-table-bytes-spec =
+pub table_bytes_spec : {M : Type 1} → statement M
+table_bytes_spec =
     tie.close
     (tie.spec
     invariant-loop

@@ -54,8 +54,8 @@ loop-again c = search rules
 returns-4 : tie.Need-returns-4 invariant-loop decreases-loop
 returns-4 c = search rules
 
-pub read-number-spec : {M : Type 1} → statement M
-read-number-spec =
+pub read_number_spec : {M : Type 1} → statement M
+read_number_spec =
     tie.close
     (tie.spec
     invariant-loop

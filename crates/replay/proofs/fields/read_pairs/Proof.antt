@@ -69,8 +69,8 @@ same-length-3 c = search rules
 returns-3 : tie.Need-returns-3 invariant-loop decreases-loop
 returns-3 c = search rules
 
-pub read-pairs-spec : {M : Type 1} → statement M
-read-pairs-spec =
+pub read_pairs_spec : {M : Type 1} → statement M
+read_pairs_spec =
     tie.close
     (tie.spec
     invariant-loop

@@ -2,7 +2,7 @@
 use native.Mathlib.Omega.{arith}
 use lib.ListN.{length}
 use borrow.Author.Rules.{rules}
-use Rattle.job.proofs.Comes.{told-inside}
+use Rattle.job.proofs.Comes.{told_inside}
 use Rattle.replay.proofs.jobs.one_line.Statement.{statement}
 use Rattle.replay.proofs.jobs.one_line.Tie as tie
 use Rattle.replay.proofs.jobs.one_line.Reads as reads
@@ -36,7 +36,7 @@ sub-whole-match c =
     let the-start = c.before.before.start in
     let the-args = c.before.before.before.before.before.before.before.before.args in
     let the-next-record = c.before.before.before.before.next-record in
-    let shown = rw the-start.given.1 at (told-inside the-args.bytes.now the-args.from (length the-args.bytes.now) 65 the-next-record.ensures) in
+    let shown = rw the-start.given.1 at (told_inside the-args.bytes.now the-args.from (length the-args.bytes.now) 65 the-next-record.ensures) in
     omega (arith, shown)
 
 part-whole-match-start : tie.Need-slice-bounds-whole-match-start
@@ -44,7 +44,7 @@ part-whole-match-start c =
     let the-start = c.before.before.start in
     let the-args = c.before.before.before.before.before.before.before.before.args in
     let the-next-record = c.before.before.before.before.next-record in
-    let shown = rw the-start.given.1 at (told-inside the-args.bytes.now the-args.from (length the-args.bytes.now) 65 the-next-record.ensures) in
+    let shown = rw the-start.given.1 at (told_inside the-args.bytes.now the-args.from (length the-args.bytes.now) 65 the-next-record.ensures) in
     omega (arith, shown)
 
 part-whole-match-end : tie.Need-slice-bounds-whole-match-end
@@ -52,7 +52,7 @@ part-whole-match-end c =
     let the-start = c.before.before.start in
     let the-args = c.before.before.before.before.before.before.before.before.args in
     let the-next-record = c.before.before.before.before.next-record in
-    let shown = rw the-start.given.1 at (told-inside the-args.bytes.now the-args.from (length the-args.bytes.now) 65 the-next-record.ensures) in
+    let shown = rw the-start.given.1 at (told_inside the-args.bytes.now the-args.from (length the-args.bytes.now) 65 the-next-record.ensures) in
     omega (arith, shown)
 
 slice-aggregate-whole-match : tie.Need-slice-aggregate-whole-match
@@ -81,11 +81,11 @@ returns-3 c =
     let the-start = c.before.before.before.before.before.before.before.before.before.before.start in
     let the-args = c.before.before.before.before.before.before.before.before.before.before.before.before.before.before.before.before.args in
     let the-next-record = c.before.before.before.before.before.before.before.before.before.before.before.before.next-record in
-    let shown = rw the-start.given.1 at (told-inside the-args.bytes.now the-args.from (length the-args.bytes.now) 65 the-next-record.ensures) in
+    let shown = rw the-start.given.1 at (told_inside the-args.bytes.now the-args.from (length the-args.bytes.now) 65 the-next-record.ensures) in
     omega (arith, shown)
 
-pub one-line-spec : {M : Type 1} → statement M
-one-line-spec =
+pub one_line_spec : {M : Type 1} → statement M
+one_line_spec =
     tie.close
     (tie.spec
     next-record-requires

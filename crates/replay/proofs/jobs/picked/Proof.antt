@@ -2,7 +2,7 @@
 use native.Mathlib.Omega.{arith}
 use lib.ListN.{length}
 use borrow.Author.Rules.{rules}
-use Rattle.job.proofs.Comes.{told-inside}
+use Rattle.job.proofs.Comes.{told_inside}
 use Rattle.replay.proofs.jobs.picked.Statement.{statement}
 use Rattle.replay.proofs.jobs.picked.Tie as tie
 use Rattle.replay.proofs.jobs.picked.Reads as reads
@@ -34,7 +34,7 @@ sub-with-pattern c =
     let the-start = c.before.start in
     let the-args = c.before.before.before.before.before.before.args in
     let the-next-record = c.before.before.before.next-record in
-    let shown = rw the-start.given.1 at (told-inside the-args.bytes.now 0 (length the-args.bytes.now) 64 the-next-record.ensures) in
+    let shown = rw the-start.given.1 at (told_inside the-args.bytes.now 0 (length the-args.bytes.now) 64 the-next-record.ensures) in
     omega (arith, shown)
 
 part-with-pattern-start : tie.Need-slice-bounds-with-pattern-start
@@ -42,7 +42,7 @@ part-with-pattern-start c =
     let the-start = c.before.start in
     let the-args = c.before.before.before.before.before.before.args in
     let the-next-record = c.before.before.before.next-record in
-    let shown = rw the-start.given.1 at (told-inside the-args.bytes.now 0 (length the-args.bytes.now) 64 the-next-record.ensures) in
+    let shown = rw the-start.given.1 at (told_inside the-args.bytes.now 0 (length the-args.bytes.now) 64 the-next-record.ensures) in
     omega (arith, shown)
 
 part-with-pattern-end : tie.Need-slice-bounds-with-pattern-end
@@ -50,7 +50,7 @@ part-with-pattern-end c =
     let the-start = c.before.start in
     let the-args = c.before.before.before.before.before.before.args in
     let the-next-record = c.before.before.before.next-record in
-    let shown = rw the-start.given.1 at (told-inside the-args.bytes.now 0 (length the-args.bytes.now) 64 the-next-record.ensures) in
+    let shown = rw the-start.given.1 at (told_inside the-args.bytes.now 0 (length the-args.bytes.now) 64 the-next-record.ensures) in
     omega (arith, shown)
 
 with-pattern-requires : tie.Need-with-pattern-requires
@@ -58,7 +58,7 @@ with-pattern-requires c κs =
     let the-start = c.before.before.before.start in
     let the-args = c.before.before.before.before.before.before.before.before.args in
     let the-next-record = c.before.before.before.before.before.next-record in
-    let shown = rw the-start.given.1 at (told-inside the-args.bytes.now 0 (length the-args.bytes.now) 64 the-next-record.ensures) in
+    let shown = rw the-start.given.1 at (told_inside the-args.bytes.now 0 (length the-args.bytes.now) 64 the-next-record.ensures) in
     omega (arith, shown)
 
 same_length : tie.Need-same-length
@@ -79,8 +79,8 @@ same-length-3 c = search rules
 returns-3 : tie.Need-returns-3
 returns-3 c = search rules
 
-pub picked-spec : {M : Type 1} → statement M
-picked-spec =
+pub picked_spec : {M : Type 1} → statement M
+picked_spec =
     tie.close
     (tie.spec
     next-record-requires

@@ -2,7 +2,7 @@
 use Prim.Native.Nat.{◌-◌}
 use borrow.Author.Rules.{rules}
 use lib.ListN.{length}
-use Rattle.turns.proofs.Written.{Copying, copy_start, copy_more, copy-end}
+use Rattle.turns.proofs.Written.{Copying, copy_start, copy_more, copy_end}
 use Rattle.turns.proofs.writing.append.Statement.{statement}
 use Rattle.turns.proofs.writing.append.Tie as tie
 
@@ -46,10 +46,10 @@ returns : tie.Need-returns invariant-loop decreases-loop
 returns c =
     let s = c.before.before in
     let l = c.before.loop in
-    copy-end s.args.bytes.now s.args.buffer.now s.args.at s.requires l.buffer l.i l.invariant c.loop-test.false
+    copy_end s.args.bytes.now s.args.buffer.now s.args.at s.requires l.buffer l.i l.invariant c.loop-test.false
 
-pub append-spec : {M : Type 1} → statement M
-append-spec =
+pub append_spec : {M : Type 1} → statement M
+append_spec =
     tie.close
     (tie.spec
     invariant-loop

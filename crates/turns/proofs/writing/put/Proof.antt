@@ -9,7 +9,7 @@ use Rattle.template.specs.declared.Record.{Record}
 use Rattle.template.specs.Record.{Shows}
 use Rattle.paper.specs.Template.{literal, reference}
 use Rattle.turns.specs.Appended.{Appended}
-use Rattle.turns.proofs.Putting.{Putting, put-start, put-room, put-more, put-end, measure-right}
+use Rattle.turns.proofs.Putting.{Putting, put_start, put_room, put_more, put_end, measure_right}
 use Rattle.turns.proofs.writing.put.Statement.{statement}
 use Rattle.turns.proofs.writing.put.Tie as tie
 
@@ -50,7 +50,7 @@ shown-reference c =
 loop-holds : tie.Need-loop-init invariant-loop decreases-loop
 loop-holds c =
     let s = c.before.before.before in
-    put-start s.args.template.now s.args.line.now s.args.rows s.requires.0 s.args.buffer.now s.args.at
+    put_start s.args.template.now s.args.line.now s.args.rows s.requires.0 s.args.buffer.now s.args.at
 
 record-at-requires : tie.Need-record-at-requires invariant-loop decreases-loop
 record-at-requires c κs = search rules
@@ -62,13 +62,13 @@ loop-less : tie.Need-loop-smaller invariant-loop decreases-loop
 loop-less c =
     let k = c.before.before in
     let s = start_of k in
-    absurd (measure-right s.args.template.now s.args.line.now s.args.rows (place k) (length k.before.before.loop.invariant.done) k.before.before.loop.invariant.measured k.before.loop-test.true (shown-wrong c))
+    absurd (measure_right s.args.template.now s.args.line.now s.args.rows (place k) (length k.before.before.loop.invariant.done) k.before.before.loop.invariant.measured k.before.loop-test.true (shown-wrong c))
 
 loop-again : tie.Need-loop-preserved invariant-loop decreases-loop
 loop-again c =
     let k = c.before.before in
     let s = start_of k in
-    absurd (measure-right s.args.template.now s.args.line.now s.args.rows (place k) (length k.before.before.loop.invariant.done) k.before.before.loop.invariant.measured k.before.loop-test.true (shown-wrong c))
+    absurd (measure_right s.args.template.now s.args.line.now s.args.rows (place k) (length k.before.before.loop.invariant.done) k.before.before.loop.invariant.measured k.before.loop-test.true (shown-wrong c))
 
 enum-known-start : tie.Need-enum-known-start invariant-loop decreases-loop
 enum-known-start c = search rules
@@ -88,7 +88,7 @@ append-requires c κs =
     let k = t.before.before.before in
     let s = start_of k in
     let l = k.before.before.loop in
-    put-room s.args.template.now s.args.line.now s.args.rows s.args.buffer.now s.args.at (place k) l.buffer l.written (literal (place k) t.before.start.given.0.0 t.before.start.given.0.1.0) l.invariant s.pre.3 k.before.loop-test.true (shown-literal t).0
+    put_room s.args.template.now s.args.line.now s.args.rows s.args.buffer.now s.args.at (place k) l.buffer l.written (literal (place k) t.before.start.given.0.0 t.before.start.given.0.1.0) l.invariant s.pre.3 k.before.loop-test.true (shown-literal t).0
 
 loop-less-2 : tie.Need-loop-smaller-2 invariant-loop decreases-loop
 loop-less-2 c = omega (arith, shown-literal c.before.before.before.before.before)
@@ -99,7 +99,7 @@ loop-again-2 c =
     let k = t.before.before.before in
     let s = start_of k in
     let l = k.before.before.loop in
-    put-more s.args.template.now s.args.line.now s.args.rows s.args.buffer.now s.args.at (place k) l.buffer l.written t.before.start.given.0.1.0 (literal (place k) t.before.start.given.0.0 t.before.start.given.0.1.0) l.invariant k.before.loop-test.true (shown-literal t).0 (shown-literal t).4 _ _ c.before.before.append.ensures
+    put_more s.args.template.now s.args.line.now s.args.rows s.args.buffer.now s.args.at (place k) l.buffer l.written t.before.start.given.0.1.0 (literal (place k) t.before.start.given.0.0 t.before.start.given.0.1.0) l.invariant k.before.loop-test.true (shown-literal t).0 (shown-literal t).4 _ _ c.before.before.append.ensures
 
 enum-known-row : tie.Need-enum-known-row invariant-loop decreases-loop
 enum-known-row c = search rules
@@ -116,7 +116,7 @@ append-requires-2 c κs =
     let s = start_of k in
     let l = k.before.before.loop in
     subst (λ (b : List ℕ). l.written + length b ≤ length l.buffer) (sym c.before.row-bytes.ensures)
-    (put-room s.args.template.now s.args.line.now s.args.rows s.args.buffer.now s.args.at (place k) l.buffer l.written (reference (place k) t.before.row.given.0.0) l.invariant s.pre.3 k.before.loop-test.true (shown-reference t).0)
+    (put_room s.args.template.now s.args.line.now s.args.rows s.args.buffer.now s.args.at (place k) l.buffer l.written (reference (place k) t.before.row.given.0.0) l.invariant s.pre.3 k.before.loop-test.true (shown-reference t).0)
 
 loop-less-3 : tie.Need-loop-smaller-3 invariant-loop decreases-loop
 loop-less-3 c = omega (arith, shown-reference c.before.before.before.before.before)
@@ -127,7 +127,7 @@ loop-again-3 c =
     let k = t.before.before.before in
     let s = start_of k in
     let l = k.before.before.loop in
-    put-more s.args.template.now s.args.line.now s.args.rows s.args.buffer.now s.args.at (place k) l.buffer l.written t.before.row.given.0.1.0 (reference (place k) t.before.row.given.0.0) l.invariant k.before.loop-test.true (shown-reference t).0 (shown-reference t).4 _ _
+    put_more s.args.template.now s.args.line.now s.args.rows s.args.buffer.now s.args.at (place k) l.buffer l.written t.before.row.given.0.1.0 (reference (place k) t.before.row.given.0.0) l.invariant k.before.loop-test.true (shown-reference t).0 (shown-reference t).4 _ _
     (subst (λ (b : List ℕ). Appended l.buffer c.before.before.append2.new.1.0 l.written b c.before.before.append2.result) c.before.before.before.before.row-bytes.ensures c.before.before.append2.ensures)
 
 same_length : tie.Need-same-length invariant-loop decreases-loop
@@ -137,7 +137,7 @@ returns : tie.Need-returns invariant-loop decreases-loop
 returns c =
     let s = c.before.before.before.before.before in
     let l = c.before.loop in
-    put-end s.args.template.now s.args.line.now s.args.rows s.args.buffer.now s.args.at l.place l.buffer l.written l.invariant c.loop-test.false
+    put_end s.args.template.now s.args.line.now s.args.rows s.args.buffer.now s.args.at l.place l.buffer l.written l.invariant c.loop-test.false
 
 pub put_spec : {M : Type 1} → statement M
 put_spec =

@@ -9,9 +9,9 @@ use Rattle.template.specs.declared.Record.{Record}
 use Rattle.template.specs.Record.{Shows}
 use Rattle.paper.specs.Template.{literal, reference}
 use Rattle.paper.specs.Replace.{put_in}
-use Rattle.paper.proofs.replacing.ScanLengths.{mostPut, put-most, part_length}
+use Rattle.paper.proofs.replacing.ScanLengths.{most_put, put_most, part_length}
 use Rattle.turns.specs.Accepted.{pieces_of}
-use Rattle.turns.proofs.Putting.{Measuring, measure-start, measure-more, measure-end, measure-right}
+use Rattle.turns.proofs.Putting.{Measuring, measure_start, measure_more, measure_end, measure_right}
 use Rattle.turns.proofs.writing.put_length.Statement.{statement}
 use Rattle.turns.proofs.writing.put_length.Tie as tie
 
@@ -54,27 +54,27 @@ literal-more c =
     let s = start_of k in
     let start = c.before.start.given.0.0 in
     let end = c.before.start.given.0.1.0 in
-    measure-more (bytes k) s.args.line.now s.args.rows (place k) k.before.before.loop.total end (literal (place k) start end) k.before.before.loop.invariant k.before.loop-test.true (shown-literal c).0 (shown-literal c).4 (end - start) (sym (part_length (bytes k) start end (shown-literal c).3))
+    measure_more (bytes k) s.args.line.now s.args.rows (place k) k.before.before.loop.total end (literal (place k) start end) k.before.before.loop.invariant k.before.loop-test.true (shown-literal c).0 (shown-literal c).4 (end - start) (sym (part_length (bytes k) start end (shown-literal c).3))
 
 reference-more : (c : tie.After-row-bytes invariant-loop decreases-loop) → Measuring (bytes c.before.before.before.before) (start_of c.before.before.before.before).args.line.now (start_of c.before.before.before.before).args.rows c.before.before.row.given.0.1.0 (c.before.before.before.before.before.before.loop.total + length c.row-bytes.result.now)
 reference-more c =
     let t = c.before in
     let k = t.before.before.before in
     let s = start_of k in
-    measure-more (bytes k) s.args.line.now s.args.rows (place k) k.before.before.loop.total t.before.row.given.0.1.0 (reference (place k) t.before.row.given.0.0) k.before.before.loop.invariant k.before.loop-test.true (shown-reference t).0 (shown-reference t).4 (length c.row-bytes.result.now) (ap length c.row-bytes.ensures)
+    measure_more (bytes k) s.args.line.now s.args.rows (place k) k.before.before.loop.total t.before.row.given.0.1.0 (reference (place k) t.before.row.given.0.0) k.before.before.loop.invariant k.before.loop-test.true (shown-reference t).0 (shown-reference t).4 (length c.row-bytes.result.now) (ap length c.row-bytes.ensures)
 
 -- no count passes what a template puts in at most
-few : (k : tie.After-record-at invariant-loop decreases-loop) → length (put_in (bytes k) (start_of k).args.line.now (start_of k).args.rows (pieces_of (bytes k))) ≤ mostPut
+few : (k : tie.After-record-at invariant-loop decreases-loop) → length (put_in (bytes k) (start_of k).args.line.now (start_of k).args.rows (pieces_of (bytes k))) ≤ most_put
 few k =
     let s = start_of k in
-    put-most (bytes k) s.args.line.now s.args.rows (pieces_of (bytes k)) s.pre.0 s.pre.2
+    put_most (bytes k) s.args.line.now s.args.rows (pieces_of (bytes k)) s.pre.0 s.pre.2
 
 -- ---- the needs
 
 loop-holds : tie.Need-loop-init invariant-loop decreases-loop
 loop-holds c =
     let s = c.before.before in
-    measure-start s.args.template.now s.args.line.now s.args.rows s.requires.0
+    measure_start s.args.template.now s.args.line.now s.args.rows s.requires.0
 
 record-at-requires : tie.Need-record-at-requires invariant-loop decreases-loop
 record-at-requires c κs = search rules
@@ -86,13 +86,13 @@ loop-less : tie.Need-loop-smaller invariant-loop decreases-loop
 loop-less c =
     let k = c.before.before in
     let s = start_of k in
-    absurd (measure-right (bytes k) s.args.line.now s.args.rows (place k) k.before.before.loop.total k.before.before.loop.invariant k.before.loop-test.true (shown-wrong c))
+    absurd (measure_right (bytes k) s.args.line.now s.args.rows (place k) k.before.before.loop.total k.before.before.loop.invariant k.before.loop-test.true (shown-wrong c))
 
 loop-again : tie.Need-loop-preserved invariant-loop decreases-loop
 loop-again c =
     let k = c.before.before in
     let s = start_of k in
-    absurd (measure-right (bytes k) s.args.line.now s.args.rows (place k) k.before.before.loop.total k.before.before.loop.invariant k.before.loop-test.true (shown-wrong c))
+    absurd (measure_right (bytes k) s.args.line.now s.args.rows (place k) k.before.before.loop.total k.before.before.loop.invariant k.before.loop-test.true (shown-wrong c))
 
 enum-known-start : tie.Need-enum-known-start invariant-loop decreases-loop
 enum-known-start c = search rules
@@ -130,10 +130,10 @@ returns : tie.Need-returns invariant-loop decreases-loop
 returns c =
     let s = c.before.before.before.before in
     let l = c.before.loop in
-    measure-end s.args.template.now s.args.line.now s.args.rows l.place l.total l.invariant c.loop-test.false
+    measure_end s.args.template.now s.args.line.now s.args.rows l.place l.total l.invariant c.loop-test.false
 
-pub put-length-spec : {M : Type 1} → statement M
-put-length-spec =
+pub put_length_spec : {M : Type 1} → statement M
+put_length_spec =
     tie.close
     (tie.spec
     invariant-loop

@@ -3,7 +3,7 @@ use Prim.Native.Nat.{◌*◌, ◌+◌, ◌≤◌}
 use native.Mathlib.Omega.{arith}
 use borrow.Author.Rules.{rules}
 use lib.ListN.{length, get_or}
-use Rattle.turns.proofs.Putting.{row-absent, row_inside, row-there}
+use Rattle.turns.proofs.Putting.{row_absent, row_inside, row_there}
 use Rattle.turns.proofs.writing.row_bytes.Statement.{statement}
 use Rattle.turns.proofs.writing.row_bytes.Tie as tie
 
@@ -52,7 +52,7 @@ part-result-end c = search rules
 returns : tie.Need-returns
 returns c =
     let s = c.before.before in
-    row-absent s.args.line.now s.args.t2 s.args.row s.requires.0 s.requires.1 c.before.if1.true
+    row_absent s.args.line.now s.args.t2 s.args.row s.requires.0 s.requires.1 c.before.if1.true
 
 sub-result-2 : tie.Need-overflow-sub-result-2
 sub-result-2 c = (inside c).0
@@ -66,10 +66,10 @@ part-result-end-2 c = omega (arith, inside c)
 returns-2 : tie.Need-returns-2
 returns-2 c =
     let s = c.before.before in
-    row-there s.args.line.now s.args.t2 s.args.row s.requires.0 s.requires.1 c.before.if1.false
+    row_there s.args.line.now s.args.t2 s.args.row s.requires.0 s.requires.1 c.before.if1.false
 
-pub row-bytes-spec : {M : Type 1} → statement M
-row-bytes-spec =
+pub row_bytes_spec : {M : Type 1} → statement M
+row_bytes_spec =
     tie.close
     (tie.spec
     mul-start
