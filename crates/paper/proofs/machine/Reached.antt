@@ -51,7 +51,7 @@ leaves e first line p threads steps o gives =
     let few : left code line (depth e) (fresh steps) < suc (pairs e) = omega (arith, unseen_all (length code) (depth e), pairs_all e first line) in
     visited_all code line (depth e) p threads o gives (suc (pairs e)) (fresh steps) none (good_fresh code line (depth e) p steps) few
 
-reached_gives : {p steps : ℕ} {threads : List Thread} (e : Pattern) (first : ℕ) (line : List ℕ) → Reached e first line p threads steps
+reached_gives : (e : Pattern) (first : ℕ) (line : List ℕ) {p steps : ℕ} {threads : List Thread} → Reached e first line p threads steps
     → (o : Option Rows) × Gives (places_of e first) line (depth e) p threads o
 reached_gives e first line start = (extract e first line, first_gives e first line)
 reached_gives e first line (next {p} {steps} {threads} r) =
