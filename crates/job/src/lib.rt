@@ -1,4 +1,6 @@
 // A job: a record whose body is a pattern, then records whose bodies are lines (01, "Known answers", on pick); and what is printed for each.
+#![tactic(auto)]
+
 ghost use Rattle.std.specs.Prelude.{◌≤◌, ◌≡◌, [], ◌∷◌, length};
 ghost use Rattle.printer.specs.Gathered.{Gathered};
 ghost use Rattle.job.specs.Comes.{comes, pattern_record, line_record, body_bytes};

@@ -1,5 +1,7 @@
 // Prints the known answers of 01, each with the pattern's records and places: every answer is what a proved call gives now.
 // Where a pattern's records stand on standard input, its numbers and its places are printed in their stead.
+#![tactic(auto)]
+
 mod answers;
 mod cases;
 mod listing;

@@ -1,5 +1,7 @@
 // Laying a place, and the passes of a repeat, into a lent table, four numbers a place (01, "The list machine", paragraph 1).
 // `places` walks over a pattern's records and calls these.
+#![tactic(auto)]
+
 mod copies;
 pub mod repeats;
 

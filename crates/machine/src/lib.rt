@@ -1,4 +1,6 @@
 // A pattern's machine (01, "The list machine"): built once for a whole match or for a search, and run on many lines.
+#![tactic(auto)]
+
 ghost use Rattle.std.specs.Prelude.{◌≡◌, Bool, true, false, ◌≤◌, max, length};
 ghost use Rattle.paper.specs.Limits.{line_bytes};
 ghost use Rattle.laying.specs.Room.{table_room};

@@ -1,4 +1,6 @@
 // The public calls whole match and search (01, "The ordered reading"): their refusals, the machine's answer, and its rows in the lent table.
+#![tactic(auto)]
+
 ghost use Rattle.std.specs.Prelude.{◌≡◌, ◌++◌, ◌≤◌, length, drop};
 ghost use Rattle.paper.specs.Limits.{table_numbers};
 ghost use Rattle.machine.specs.Machine.{Ready};

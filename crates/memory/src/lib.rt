@@ -1,4 +1,6 @@
 // A machine in lent memory, built once and run on many lines: its head and its table in one memory, and its scratch in four (01, "The list machine").
+#![tactic(auto)]
+
 ghost use Rattle.std.specs.Prelude.{◌≡◌, ◌≤◌, min, length};
 ghost use Rattle.memory.specs.Memory.{machine_numbers, scratch_numbers, memories, shortest, MachineOf, BuildsIn, RunsIn};
 

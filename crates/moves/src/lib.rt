@@ -1,4 +1,6 @@
 // The move at a place (01, "The list machine", paragraph 2): where it leads at once, or what it carries to the next position, or that it wins.
+#![tactic(auto)]
+
 ghost use Rattle.std.specs.Prelude.{◌≡◌, ◌&&◌, ◌+◌, ◌*◌, ◌≤◌, ◌<◌, ◌^◌, leb, length};
 ghost use Rattle.paper.specs.Reading.{in_set};
 ghost use Rattle.paper.specs.Check.{ranges_of, part};

@@ -1,4 +1,6 @@
 // Checking a pattern, and the limits that everything else names (01, "Pattern records" and "Numbered refusals and their order").
+#![tactic(auto)]
+
 pub mod counts;
 mod sets;
 mod walk;

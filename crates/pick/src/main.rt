@@ -1,5 +1,7 @@
 // Reads a job on standard input, a pattern and then lines, and prints the pattern's numbers and for each line whether it matches, the steps and the rows.
 // The pattern is checked and built once; lines are read and answers written in blocks.
+#![tactic(auto)]
+
 mod window;
 
 ghost use Rattle.std.specs.Prelude.{◌≤◌, ◌≡◌, false, length, take};

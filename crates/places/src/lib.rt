@@ -1,5 +1,7 @@
 // Building: the places of an accepted pattern into a lent table (01, "The list machine", paragraph 1). A walk over its records lays them, and counts
 // the places of a record ahead where another follows it.
+#![tactic(auto)]
+
 mod sums;
 mod walk;
 

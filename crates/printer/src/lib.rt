@@ -2,6 +2,8 @@
 // Each function takes the buffer and how many bytes are gathered in it, and answers how many there are then. The number FAILED says
 // that a write failed: then nothing more is gathered or written, so that what was written is the beginning of the output.
 // Where `coded` is true, each byte is printed as its two hexadecimal digits.
+#![tactic(auto)]
+
 mod answers;
 mod input;
 

@@ -1,4 +1,6 @@
 // Little-endian numbers and record headers out of a slice: what patterns, templates and jobs are all read by (01, "Pattern records", paragraph 1).
+#![tactic(auto)]
+
 ghost use Rattle.std.specs.Prelude.{◌≡◌, ◌+◌, ◌≤◌, ◌<◌, length};
 ghost use Rattle.paper.specs.Check.{number_at};
 ghost use Rattle.records.specs.Header.{Shows};

@@ -1,4 +1,6 @@
 // Replace-all: the line with the template put in for each match (01, "Replace-all"), over a machine that is built once.
+#![tactic(auto)]
+
 mod scans;
 
 ghost use Rattle.std.specs.Prelude.{◌≡◌, Bool};

@@ -1,5 +1,7 @@
 // Runs cases. Each line of standard input is a call with its arguments, as docs/CASES.md describes them; the part from ` ->` on may be there and is ignored.
 // Each is printed back with the answer that the call gives now, so that a file of right cases comes out as it went in.
+#![tactic(auto)]
+
 mod calls;
 mod fields;
 mod jobs;

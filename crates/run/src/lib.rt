@@ -1,4 +1,6 @@
 // The positions of the line one after the other: the threads of a list visited in order, and those that they carry.
+#![tactic(auto)]
+
 ghost use Rattle.std.specs.Prelude.{◌≡◌, not, cond, ◌&&◌, ◌+◌, ◌*◌, ◌≤◌, ◌<◌, ltb, length, replicate};
 ghost use Rattle.threads.specs.Threads.{thread_numbers};
 ghost use Rattle.moves.specs.Shows.{AheadIn};

@@ -1,5 +1,7 @@
 // Answers as a status and numbers at the front of a lent `out`: a refusal as its number and its place (01, "Numbered refusals and their order"), any other as 0
 // and its numbers in 01's order.
+#![tactic(auto)]
+
 ghost use Rattle.std.specs.Prelude.{[], ◌∷◌, ◌≤◌, length};
 ghost use Rattle.paper.specs.Refusal.{refused, accepted};
 ghost use Rattle.pattern.specs.Answer as checked;

@@ -1,4 +1,6 @@
 // Templates: their records, checked and read one by one, and what a record puts in, without copying (01, "Replace-all").
+#![tactic(auto)]
+
 ghost use Rattle.std.specs.Prelude.{◌≡◌, List, ℕ, ◌≤◌, ◌<◌, length, drop};
 ghost use Rattle.paper.specs.Limits.{pattern_groups, table_numbers};
 ghost use Rattle.paper.specs.Refusal.{accepted};

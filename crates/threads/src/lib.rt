@@ -1,5 +1,7 @@
 // Threads in lent memory (01, "The list machine", paragraph 2): a list of them, the branches of forks that wait, the stamps of what a position has met,
 // and a thread's rows made absent.
+#![tactic(auto)]
+
 ghost use Rattle.std.specs.Prelude.{◌≡◌, not, ◌+◌, ◌*◌, ◌≤◌, ◌<◌, ◌^◌, eqb, length, get_or, set};
 ghost use Rattle.paper.specs.Limits.{row_count};
 ghost use Rattle.paper.specs.Rows.{clear};

@@ -1,4 +1,6 @@
 // One turn of replace-all's scan (01, "Replace-all"): what a search that was made asks to copy and to put in, and where the scan goes on.
+#![tactic(auto)]
+
 mod writing;
 
 ghost use Rattle.std.specs.Prelude.{◌≡◌, Bool, cond, not, [], ◌+◌, ◌≤◌, length};

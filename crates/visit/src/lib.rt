@@ -1,5 +1,7 @@
 // One position of the line (01, "The list machine", paragraph 2): a thread with all that it leads to there, in the order of the forks. The tables are lent;
 // nothing is allocated.
+#![tactic(auto)]
+
 ghost use Rattle.std.specs.Prelude.{List, ℕ};
 ghost use Rattle.moves.specs.Shows.{AheadIn};
 ghost use Rattle.visit.specs.Visits.{Arrives, Visits};
