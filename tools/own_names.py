@@ -16,6 +16,7 @@ SPELLED = {
     "all-places": "all_places_law",
     "at-end": "at_end_law",
     "every_byte": "every_byte_law",
+    "from-template": "from_template_law",
     "match-steps": "match_steps_law",
     "most-steps": "most_steps_law",
     "of-kind": "of_kind_law",
@@ -48,6 +49,9 @@ def snake(name):
     return re.sub(r"([A-Za-z0-9])-([A-Za-z0-9])", lambda m: m[1] + "_" + m[2].lower(), name.replace("-to-", "_to_"))
 
 
+# names of constructors that share a line, of parameters and of local values
+OTHERS = ["groupsBefore", "repeatKind", "fromLine", "groupKind", "nonEmpty", "fromTemplate", "bytesKind", "sequenceKind", "nothingKind", "emptyKind", "alternationKind", "holderEnd", "goOn", "mostRead", "modeRead", "leastRead"]
+
 # the library's names too: they are turned only in the files that don't take them from it
 LIBRARYS = {"and-false": "mathlib.Core.Bool", "and-true": "mathlib.Core.Bool"}
 
@@ -68,7 +72,7 @@ def own():
 
 
 def main(argv):
-    declared = own()
+    declared = own() | {n: ["-"] for n in OTHERS}
     new = {n: snake(n) for n in declared if snake(n) != n}
     if "--list" in argv:
         for n in sorted(new):

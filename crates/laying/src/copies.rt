@@ -34,7 +34,7 @@ fn moved(shift: Shift, x: usize) -> usize
 // The third number of a place in the copy: a fork's is its other follower.
 fn moved_other(shift: Shift, kind: u16, a: usize) -> usize
     requires moving { Moving shift.from shift.count shift.to shift.next }
-    requires a_le_most_number { a ≤ most_number }
+    requires small { a ≤ most_number }
     ensures { (result ≡ moved_other shift.from shift.count shift.to shift.next kind a) × (result ≤ most_number) }
 {
     if kind == PlaceKind::FORK {
@@ -54,8 +54,8 @@ fn number(x: u16) -> usize
 // Copies one of the places, its followers moved.
 fn place_copied(table: &mut [u16], shift: Shift, k: usize)
     requires moving { Moving shift.from shift.count shift.to shift.next }
-    requires k_lt_count { k < shift.count }
-    requires table_room_in_bounds { table_room ≤ length table.old }
+    requires below { k < shift.count }
+    requires room { table_room ≤ length table.old }
     ensures { PutMoved shift.from shift.count shift.to shift.next k table.old table.new }
 {
     let b = PlaceKind::NUMBERS * (shift.from + k);
@@ -69,7 +69,7 @@ fn place_copied(table: &mut [u16], shift: Shift, k: usize)
 // Copies places, their followers moved. The copy may stand where they do: then only what follows them changes.
 pub fn copied(table: &mut [u16], shift: Shift)
     requires moving { Moving shift.from shift.count shift.to shift.next }
-    requires table_room_in_bounds { table_room ≤ length table.old }
+    requires room { table_room ≤ length table.old }
     ensures { Copied shift.from shift.count shift.to shift.next shift.count table.old table.new }
 {
     let mut k = 0;

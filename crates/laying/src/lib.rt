@@ -42,7 +42,7 @@ pub fn set_place(
     next: usize,
 )
     requires ranged { Ranged pattern.now start stop base next }
-    requires table_room_in_bounds { table_room ≤ length table.old }
+    requires room { table_room ≤ length table.old }
     ensures { RangedLaid pattern.now start stop base next table.old table.new }
 {
     if stop - start == 2 {

@@ -54,7 +54,7 @@ fn pass_end(endless: bool, may: usize, base: usize, after: usize, next: usize) -
 // A begin of a pass, and the inner part behind it.
 fn begun(table: &mut [u16], pass: Pass, kind: u16, base: usize, next: usize)
     requires begun { Begun pass.model pass.places kind pass.first pass.groups base next }
-    requires table_room_in_bounds { table_room ≤ length table.old }
+    requires room { table_room ≤ length table.old }
     ensures { BegunLaid pass.model pass.places kind pass.first pass.groups base next table.old table.new }
 {
     let places = pass.places;
@@ -92,7 +92,7 @@ fn must_passes(
     next: usize,
 ) -> usize
     requires repeating { Repeating pass.model pass.places pass.first pass.groups must may pass.endless base next }
-    requires table_room_in_bounds { table_room ≤ length table.old }
+    requires room { table_room ≤ length table.old }
     ensures { PassesLeft pass.model pass.places pass.first pass.groups must may pass.endless pass.mode base next table.old 0 may result table.new }
 {
     let mut left = must;
@@ -110,7 +110,7 @@ fn must_passes(
 // The optional passes, one after another; without an upper end there is one, whose end leads back.
 fn may_passes(table: &mut [u16], pass: Pass, may: usize, base: usize, next: usize)
     requires repeating { Repeating pass.model pass.places pass.first pass.groups 0 may pass.endless base next }
-    requires table_room_in_bounds { table_room ≤ length table.old }
+    requires room { table_room ≤ length table.old }
     ensures { PassesLaid pass.model pass.places pass.first pass.groups 0 may pass.endless pass.mode base next table.old table.new }
 {
     let mut left = may;
@@ -130,7 +130,7 @@ fn may_passes(table: &mut [u16], pass: Pass, may: usize, base: usize, next: usiz
 // The passes of a repeat: those that must be made, then the optional ones.
 pub fn passes(table: &mut [u16], pass: Pass, must: usize, may: usize, base: usize, next: usize)
     requires repeating { Repeating pass.model pass.places pass.first pass.groups must may pass.endless base next }
-    requires table_room_in_bounds { table_room ≤ length table.old }
+    requires room { table_room ≤ length table.old }
     ensures { PassesLaid pass.model pass.places pass.first pass.groups must may pass.endless pass.mode base next table.old table.new }
 {
     let from = must_passes(table, pass, must, may, base, next);

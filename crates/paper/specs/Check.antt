@@ -6,7 +6,7 @@ use Rattle.paper.specs.Refusal.{pattern_too_long, broken_record, unknown_kind, s
 use Rattle.paper.specs.Pattern.{Mode, greedy, lazy, Upper, up_to, no_end, Range, Pattern, Members, all_places, depth, groups}
 use Rattle.paper.specs.Pattern.Pattern.{nothing, empty, bytes, group, sequence, alternation, repeat}
 use Rattle.paper.specs.Pattern.Members.{two, more}
-use Rattle.paper.specs.Layout.{Kind, nothingKind, emptyKind, bytesKind, groupKind, sequenceKind, alternationKind, repeatKind, kinds, kind_number, mode_number}
+use Rattle.paper.specs.Layout.{Kind, nothing_kind, empty_kind, bytes_kind, group_kind, sequence_kind, alternation_kind, repeat_kind, kinds, kind_number, mode_number}
 
 -- Patterns 1: the number whose two bytes stand at an offset
 abbrev pub number_at : List ℕ → ℕ → ℕ
@@ -36,7 +36,7 @@ kind_among (k ∷ ks) number at = cond (eqb number (kind_number k)) (accepted k)
 
 -- Refusals 2: at each record first 2, where its header or its body runs past its holder (a body's end is past its header), then 3
 abbrev pub header : List ℕ → ℕ → ℕ → Checked Kind
-header bs at holderEnd = holds (leb (body_end bs at) holderEnd) broken_record at >> kind_among kinds (kind_at bs at) at
+header bs at holder_end = holds (leb (body_end bs at) holder_end) broken_record at >> kind_among kinds (kind_at bs at) at
 
 -- Refusals 2: kinds 0 and 1 with a body are 2 at that record
 abbrev pub bare : Pattern → List ℕ → ℕ → Checked Pattern
@@ -85,17 +85,17 @@ Walk = ℕ → ℕ → ℕ → Checked Pattern
 
 -- Refusals 2: the single record inside a group or a repeat, walked from `start`; what is left over behind it is 2 at the holder
 abbrev pub single : Walk → List ℕ → ℕ → ℕ → ℕ → Checked Pattern
-single walk bs at start groupsBefore =
-    walk start (body_end bs at) groupsBefore >>= λ e.
+single walk bs at start groups_before =
+    walk start (body_end bs at) groups_before >>= λ e.
     holds (eqb (body_end bs start) (body_end bs at)) broken_record at >> accepted e
 
 -- Refusals 2: the records from an offset up to the end of their holder, left to right. Each turn takes a byte at least, so as many turns as bytes are enough
 abbrev pub walk_all : ℕ → Walk → List ℕ → ℕ → ℕ → ℕ → Checked (List Pattern)
-walk_all zero walk bs at holderEnd groupsBefore = accepted []
-walk_all (suc turns) walk bs at holderEnd groupsBefore =
-    cond (ltb at holderEnd)
-    (walk at holderEnd groupsBefore >>= λ e.
-    walk_all turns walk bs (body_end bs at) holderEnd (groupsBefore + groups e) >>= λ es.
+walk_all zero walk bs at holder_end groups_before = accepted []
+walk_all (suc turns) walk bs at holder_end groups_before =
+    cond (ltb at holder_end)
+    (walk at holder_end groups_before >>= λ e.
+    walk_all turns walk bs (body_end bs at) holder_end (groups_before + groups e) >>= λ es.
     accepted (e ∷ es))
     (accepted [])
 
@@ -110,33 +110,33 @@ at_least_two (a ∷ []) at = refused broken_record at
 at_least_two (a ∷ b ∷ rest) at = accepted (members_from a b rest)
 
 abbrev pub several : Walk → List ℕ → ℕ → ℕ → Checked Members
-several walk bs at groupsBefore =
-    walk_all (body_length bs at) walk bs (body_start at) (body_end bs at) groupsBefore >>= λ es.
+several walk bs at groups_before =
+    walk_all (body_length bs at) walk bs (body_start at) (body_end bs at) groups_before >>= λ es.
     at_least_two es at
 
 -- Refusals 2: a record's own body by its kind, then 7, then what it holds
 abbrev pub body : Kind → Walk → List ℕ → ℕ → ℕ → Checked Pattern
-body nothingKind walk bs at groupsBefore = bare nothing bs at
-body emptyKind walk bs at groupsBefore = bare empty bs at
-body bytesKind walk bs at groupsBefore = byte_set bs at
-body groupKind walk bs at groupsBefore =
-    holds (ltb groupsBefore pattern_groups) too_many_groups at >>
-    (single walk bs at (body_start at) (groupsBefore + 1) >>= λ e. accepted (group e))
-body sequenceKind walk bs at groupsBefore = several walk bs at groupsBefore >>= λ ms. accepted (sequence ms)
-body alternationKind walk bs at groupsBefore = several walk bs at groupsBefore >>= λ ms. accepted (alternation ms)
-body repeatKind walk bs at groupsBefore =
+body nothing_kind walk bs at groups_before = bare nothing bs at
+body empty_kind walk bs at groups_before = bare empty bs at
+body bytes_kind walk bs at groups_before = byte_set bs at
+body group_kind walk bs at groups_before =
+    holds (ltb groups_before pattern_groups) too_many_groups at >>
+    (single walk bs at (body_start at) (groups_before + 1) >>= λ e. accepted (group e))
+body sequence_kind walk bs at groups_before = several walk bs at groups_before >>= λ ms. accepted (sequence ms)
+body alternation_kind walk bs at groups_before = several walk bs at groups_before >>= λ ms. accepted (alternation ms)
+body repeat_kind walk bs at groups_before =
     let start = body_start at in
     let least = number_at bs start in
     let most = number_at bs (start + 2) in
     let mode = number_at bs (start + 4) in
     holds (leb repeat_head (body_length bs at)) broken_record at >>
     (holds (repeat_numbers_right least most mode) repeat_wrong at >>
-    (single walk bs at (start + repeat_head) groupsBefore >>= λ e. accepted (repeat least (upper_of most) (mode_of mode) e)))
+    (single walk bs at (start + repeat_head) groups_before >>= λ e. accepted (repeat least (upper_of most) (mode_of mode) e)))
 
 -- Refusals 2 and Patterns 4: the walk of one record, with so many levels left for it and what it holds
 abbrev pub walk_record : ℕ → List ℕ → Walk
-walk_record zero bs at holderEnd groupsBefore = header bs at holderEnd >>= λ kind. refused too_deep at
-walk_record (suc left) bs at holderEnd groupsBefore = header bs at holderEnd >>= λ kind. body kind (walk_record left bs) bs at groupsBefore
+walk_record zero bs at holder_end groups_before = header bs at holder_end >>= λ kind. refused too_deep at
+walk_record (suc left) bs at holder_end groups_before = header bs at holder_end >>= λ kind. body kind (walk_record left bs) bs at groups_before
 
 -- Refusals 1 and 2: refusals 1 to 8 of a pattern in their order, or its tree
 abbrev pub pattern_of : List ℕ → Checked Pattern

@@ -15,19 +15,19 @@ record_bytes kind body = two_bytes (length body) ++ two_bytes kind ++ body
 
 -- Patterns 2, table, first column: the kinds that a pattern's record can be of
 pub data Kind : Type 0 where
-  nothingKind emptyKind bytesKind groupKind sequenceKind alternationKind repeatKind : Kind
+  nothing_kind empty_kind bytes_kind group_kind sequence_kind alternation_kind repeat_kind : Kind
 
 abbrev pub kind_number : Kind → ℕ
-kind_number nothingKind = 0
-kind_number emptyKind = 1
-kind_number bytesKind = 2
-kind_number groupKind = 3
-kind_number sequenceKind = 4
-kind_number alternationKind = 5
-kind_number repeatKind = 6
+kind_number nothing_kind = 0
+kind_number empty_kind = 1
+kind_number bytes_kind = 2
+kind_number group_kind = 3
+kind_number sequence_kind = 4
+kind_number alternation_kind = 5
+kind_number repeat_kind = 6
 
 abbrev pub kinds : List Kind
-kinds = nothingKind ∷ emptyKind ∷ bytesKind ∷ groupKind ∷ sequenceKind ∷ alternationKind ∷ repeatKind ∷ []
+kinds = nothing_kind ∷ empty_kind ∷ bytes_kind ∷ group_kind ∷ sequence_kind ∷ alternation_kind ∷ repeat_kind ∷ []
 
 -- Patterns 3: the numbers that a repeat's body begins with
 abbrev pub upper_number : Upper → ℕ
@@ -49,13 +49,13 @@ range_bytes (r ∷ rs) = r.low ∷ r.high ∷ range_bytes rs
 -- Patterns 2, table, third column: the record of a pattern
 abbrev mutual
   pub record_of : Pattern → List ℕ
-  record_of nothing = record_bytes (kind_number nothingKind) []
-  record_of empty = record_bytes (kind_number emptyKind) []
-  record_of (bytes ranges) = record_bytes (kind_number bytesKind) (range_bytes ranges)
-  record_of (group e) = record_bytes (kind_number groupKind) (record_of e)
-  record_of (sequence ms) = record_bytes (kind_number sequenceKind) (records_of ms)
-  record_of (alternation ms) = record_bytes (kind_number alternationKind) (records_of ms)
-  record_of (repeat least upper mode e) = record_bytes (kind_number repeatKind) (repeat_bytes least upper mode ++ record_of e)
+  record_of nothing = record_bytes (kind_number nothing_kind) []
+  record_of empty = record_bytes (kind_number empty_kind) []
+  record_of (bytes ranges) = record_bytes (kind_number bytes_kind) (range_bytes ranges)
+  record_of (group e) = record_bytes (kind_number group_kind) (record_of e)
+  record_of (sequence ms) = record_bytes (kind_number sequence_kind) (records_of ms)
+  record_of (alternation ms) = record_bytes (kind_number alternation_kind) (records_of ms)
+  record_of (repeat least upper mode e) = record_bytes (kind_number repeat_kind) (repeat_bytes least upper mode ++ record_of e)
 
   pub records_of : Members → List ℕ
   records_of (two a b) = record_of a ++ record_of b

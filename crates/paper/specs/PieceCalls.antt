@@ -9,7 +9,7 @@ use Rattle.paper.specs.Template.{Piece, literal, reference, template_of}
 
 -- Replace 3: out of the template or out of the line
 pub data Source : Type 0 where
-  fromTemplate fromLine : Source
+  from_template from_line : Source
 
 -- Replace 3: source, start and end
 pub record Span : Type 0 where
@@ -25,12 +25,12 @@ is_absent start end = eqb start absent && eqb end absent
 abbrev pub row_span : ℕ → ℕ → ℕ → Checked Span
 row_span size start end =
     cond (is_absent start end)
-    (accepted (record { source = fromLine; start = 0; end = 0 }))
-    (holds (leb start end && leb end size) row_wrong 0 >> accepted (record { source = fromLine; start = start; end = end }))
+    (accepted (record { source = from_line; start = 0; end = 0 }))
+    (holds (leb start end && leb end size) row_wrong 0 >> accepted (record { source = from_line; start = start; end = end }))
 
 -- Replace 3: what one template record puts in
 abbrev pub span_of : Piece → ℕ → Rows → Checked Span
-span_of (literal at start end) size table = accepted (record { source = fromTemplate; start = start; end = end })
+span_of (literal at start end) size table = accepted (record { source = from_template; start = start; end = end })
 span_of (reference at row) size table = row_span size (row_start row table) (row_end row table)
 
 -- Replace 3 and Refusals 1, table, 16: pieces are counted from 0
@@ -46,8 +46,8 @@ piece_call template line table n =
 
 -- Replace 3: the part itself, out of the source named; where the call refuses, the empty part at the template's start
 abbrev pub source_bytes : Source → List ℕ → List ℕ → List ℕ
-source_bytes fromTemplate t l = t
-source_bytes fromLine t l = l
+source_bytes from_template t l = t
+source_bytes from_line t l = l
 
 abbrev pub part_call : Checked Span → List ℕ → List ℕ → List ℕ
 part_call (refused number place) t l = []

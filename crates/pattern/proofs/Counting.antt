@@ -28,6 +28,7 @@ capped_add a b = omega arith
 
 -- one pass at least keeps a count at the limit there
 pub one_pass : (n k e : ℕ) → 0 < n → pattern_places ≤ e → pattern_places ≤ n * (k + e)
+one_pass zero k e pos much = absurd (omega arith)
 one_pass (suc n) k e pos much = omega (arith, suc-mul n (k + e))
 
 -- so do passes that must be made and optional ones together

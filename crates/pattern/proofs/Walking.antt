@@ -14,7 +14,7 @@ use Rattle.paper.specs.Limits.{pattern_bytes, pattern_levels, pattern_groups, pa
 use Rattle.paper.specs.Refusal.{Checked, refused, accepted, ◌>>=◌, ◌>>◌, holds, broken_record, unknown_kind, too_deep, too_many_groups, repeat_wrong, set_wrong}
 use Rattle.paper.specs.Pattern.{Mode, Upper, Pattern, Members, places, depth, groups, count, places_of_all, depth_of_all, groups_of_all}
 use Rattle.paper.specs.Pattern.Pattern.{bytes, group, sequence, alternation, repeat}
-use Rattle.paper.specs.Layout.{Kind, kinds, kind_number, groupKind, repeatKind}
+use Rattle.paper.specs.Layout.{Kind, kinds, kind_number, group_kind, repeat_kind}
 use Rattle.paper.specs.Check.{Walk, number_at, body_length, body_start, body_end, kind_at, kind_among, bare, byte_set, part, set_right, ranges_of, body, single, members_from, at_least_two, walk_record, repeat_numbers_right, upper_of, mode_of, repeat_head}
 use Rattle.pattern.specs.Walk.{capped, optional_passes, pass_places, places_in, depth_in, groups_in, told, told_all, leaf_of, group_of, repeat_of, several_of, of_kind, Within, AllWithin, Tells, TellsAll}
 use Rattle.pattern.specs.declared.walk.Walked.{Walked}
@@ -80,19 +80,19 @@ module _ (bs : List ℕ) (at stop before : ℕ) where
   cut_off zero lt = rw (lt-leb (body_end bs at) stop lt)
   cut_off (suc left) lt = rw (lt-leb (body_end bs at) stop lt)
 
-  no_kind : (number : ℕ) → kind_number repeatKind < number → kind_among kinds number at ≡ refused unknown_kind at
+  no_kind : (number : ℕ) → kind_number repeat_kind < number → kind_among kinds number at ≡ refused unknown_kind at
   no_kind number lt =
       simp (ne_eqb number 0 (λ e. omega arith), ne_eqb number 1 (λ e. omega arith), ne_eqb number 2 (λ e. omega arith), ne_eqb number 3 (λ e. omega arith), ne_eqb number 4 (λ e. omega arith), ne_eqb number 5 (λ e. omega arith), ne_eqb number 6 (λ e. omega arith))
 
   -- a kind above the last is 3
-  pub kind_unknown : (levels : ℕ) → body_end bs at ≤ stop → kind_number repeatKind < kind_at bs at → walk_record levels bs at stop before ≡ refused unknown_kind at
+  pub kind_unknown : (levels : ℕ) → body_end bs at ≤ stop → kind_number repeat_kind < kind_at bs at → walk_record levels bs at stop before ≡ refused unknown_kind at
   kind_unknown zero le lt = rw (le-leb (body_end bs at) stop le, no_kind (kind_at bs at) lt)
   kind_unknown (suc left) le lt = rw (le-leb (body_end bs at) stop le, no_kind (kind_at bs at) lt)
 
   abbrev deepest : Kind → Checked Pattern
   deepest kind = refused too_deep at
 
-  too_deep_at : (number : ℕ) → number ≤ kind_number repeatKind → (kind_among kinds number at >>= deepest) ≡ refused too_deep at
+  too_deep_at : (number : ℕ) → number ≤ kind_number repeat_kind → (kind_among kinds number at >>= deepest) ≡ refused too_deep at
   too_deep_at zero le = refl
   too_deep_at (suc zero) le = refl
   too_deep_at (suc (suc zero)) le = refl
@@ -103,7 +103,7 @@ module _ (bs : List ℕ) (at stop before : ℕ) where
   too_deep_at (suc (suc (suc (suc (suc (suc (suc n))))))) le = absurd (omega arith)
 
   -- with no level left a known kind is 6
-  pub no_level : (levels : ℕ) → levels ≡ 0 → body_end bs at ≤ stop → kind_at bs at ≤ kind_number repeatKind → walk_record levels bs at stop before ≡ refused too_deep at
+  pub no_level : (levels : ℕ) → levels ≡ 0 → body_end bs at ≤ stop → kind_at bs at ≤ kind_number repeat_kind → walk_record levels bs at stop before ≡ refused too_deep at
   no_level levels z le known = rw (z, le-leb (body_end bs at) stop le, too_deep_at (kind_at bs at) known)
 
   -- with a level left the walk goes on in the body
@@ -113,7 +113,7 @@ module _ (bs : List ℕ) (at stop before : ℕ) where
   one_level (suc left) n le = let e : suc left - 1 ≡ left = omega arith in rw (e, le-leb (body_end bs at) stop le)
 
 -- the kind that is left where all others are ruled out
-pub last_kind : (number : ℕ) → number ≤ kind_number repeatKind → (number ≡ 0 → ⊥) → (number ≡ 1 → ⊥) → (number ≡ 2 → ⊥) → (number ≡ 3 → ⊥) → (number ≡ 4 → ⊥) → (number ≡ 5 → ⊥) → number ≡ kind_number repeatKind
+pub last_kind : (number : ℕ) → number ≤ kind_number repeat_kind → (number ≡ 0 → ⊥) → (number ≡ 1 → ⊥) → (number ≡ 2 → ⊥) → (number ≡ 3 → ⊥) → (number ≡ 4 → ⊥) → (number ≡ 5 → ⊥) → number ≡ kind_number repeat_kind
 last_kind zero le a b c d e f = absurd (a refl)
 last_kind (suc zero) le a b c d e f = absurd (b refl)
 last_kind (suc (suc zero)) le a b c d e f = absurd (c refl)
@@ -160,7 +160,7 @@ set_tells {start} {end} {before} bs at levels starts ends few =
 
 module _ (walk : Walk) (bs : List ℕ) (at end left before : ℕ) where
   -- after nine groups a group is 7
-  pub tenth_group : pattern_groups ≤ before → body groupKind walk bs at before ≡ refused too_many_groups at
+  pub tenth_group : pattern_groups ≤ before → body group_kind walk bs at before ≡ refused too_many_groups at
   tenth_group many = rw (le-ltb before pattern_groups many)
 
   group_around : (found : Checked Pattern) (w : Walked) → w ≡ told end (before + 1) found → group_of w ≡ told end before (found >>= λ e. accepted (group e))
@@ -176,7 +176,7 @@ module _ (walk : Walk) (bs : List ℕ) (at end left before : ℕ) where
 
   -- a group's answer out of that of the one record inside
   pub group_tells : {start : ℕ} {w : Walked} → before < pattern_groups → start ≡ body_start at
-      → Tells end left end (before + 1) (single walk bs at start (before + 1)) w → Tells end (left + 1) end before (body groupKind walk bs at before) (group_of w)
+      → Tells end left end (before + 1) (single walk bs at start (before + 1)) w → Tells end (left + 1) end before (body group_kind walk bs at before) (group_of w)
   group_tells {start} {w} few s t = record {
     answer = group_around (single walk bs at start (before + 1)) w t.answer ∙ rw (s, lt-ltb before pattern_groups few);
     within = group_within w t.within;
@@ -199,13 +199,13 @@ repeat_within end left least optional (Record after counted deep total) h = judg
 
 module _ (walk : Walk) (bs : List ℕ) (at end left before : ℕ) where
   -- a body that has not its three numbers is 2
-  pub short_repeat : body_length bs at < repeat_head → body repeatKind walk bs at before ≡ refused broken_record at
+  pub short_repeat : body_length bs at < repeat_head → body repeat_kind walk bs at before ≡ refused broken_record at
   short_repeat lt = rw (lt-leb repeat_head (body_length bs at) lt)
 
   module _ {start least most mode : ℕ} (starts : start ≡ body_start at)
       (the-least : least ≡ number_at bs start) (the-most : most ≡ number_at bs (start + 2)) (the-mode : mode ≡ number_at bs (start + 4))
       (long : repeat_head ≤ body_length bs at) where
-    numbers_judged : (right : Bool) → repeat_numbers_right least most mode ≡ right → body repeatKind walk bs at before ≡
+    numbers_judged : (right : Bool) → repeat_numbers_right least most mode ≡ right → body repeat_kind walk bs at before ≡
         (holds right repeat_wrong at >> (single walk bs at (start + repeat_head) before >>= λ e. accepted (repeat least (upper_of most) (mode_of mode) e)))
     numbers_judged right e =
         let q : repeat_numbers_right (number_at bs (body_start at)) (number_at bs (body_start at + 2)) (number_at bs (body_start at + 4)) ≡ right =
@@ -213,12 +213,12 @@ module _ (walk : Walk) (bs : List ℕ) (at end left before : ℕ) where
         rw (the-least, the-most, the-mode, starts, le-leb repeat_head (body_length bs at) long, q)
 
     -- wrong numbers are 5
-    pub wrong_numbers : repeat_numbers_right least most mode ≡ false → body repeatKind walk bs at before ≡ refused repeat_wrong at
+    pub wrong_numbers : repeat_numbers_right least most mode ≡ false → body repeat_kind walk bs at before ≡ refused repeat_wrong at
     wrong_numbers e = numbers_judged false e
 
     -- a repeat's answer out of that of the one record inside
     pub repeat_tells : {optional : ℕ} {w : Walked} → repeat_numbers_right least most mode ≡ true → optional ≡ optional_passes least (upper_of most)
-        → Tells end left end before (single walk bs at (start + repeat_head) before) w → Tells end (left + 1) end before (body repeatKind walk bs at before) (repeat_of least optional w)
+        → Tells end left end before (single walk bs at (start + repeat_head) before) w → Tells end (left + 1) end before (body repeat_kind walk bs at before) (repeat_of least optional w)
     repeat_tells {optional} {w} right o t = record {
       answer = rw o (repeat_around end before least (upper_of most) (mode_of mode) (single walk bs at (start + repeat_head) before) w t.answer) ∙ sym (ap (told end before) (numbers_judged true right));
       within = repeat_within end left least optional w t.within;

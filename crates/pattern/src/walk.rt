@@ -1,7 +1,7 @@
 // The walk over a pattern's records, outer before inner and left to right. Each function answers with the first fault or with what it counted.
 ghost use Rattle.std.specs.Prelude.{◌≡◌, ◌+◌, ◌≤◌};
 ghost use Rattle.paper.specs.Limits.{pattern_bytes, pattern_levels, repeat_count};
-ghost use Rattle.paper.specs.Layout.{kind_number, groupKind, repeatKind};
+ghost use Rattle.paper.specs.Layout.{kind_number, group_kind, repeat_kind};
 ghost use Rattle.paper.specs.Check.{body_start, body_end, single, body, walk_record};
 ghost use Rattle.pattern.specs.Walk.{leaf_of, group_of, repeat_of, several_of, of_kind, members_of, Within, AllWithin, Tells, TellsAll, Held, Room};
 
@@ -144,7 +144,7 @@ fn as_several(inner: Several, at: usize, end: usize, forks: bool) -> Walked
 }
 
 // The record at an offset, of a holder that ends at `stop`: 2, 3 and 6, then by its kind.
-#[cycle(all_inside_any_record_body_group_one_inside_repeat)]
+#[cycle(reading)]
 pub fn any_record(s: &[u8], at: usize, stop: usize, levels: usize, before: usize) -> Walked
     requires { Held s.now at stop levels before }
     ensures { Tells stop levels (body_end s.now at) before (walk_record levels s.now at stop before) result }
@@ -164,7 +164,7 @@ pub fn any_record(s: &[u8], at: usize, stop: usize, levels: usize, before: usize
 }
 
 // A record's own body by its kind, then what it holds.
-#[cycle(all_inside_any_record_body_group_one_inside_repeat)]
+#[cycle(reading)]
 fn body(
     s: &[u8],
     kind: usize,
@@ -174,7 +174,7 @@ fn body(
     left: usize,
     before: usize,
 ) -> Walked
-    requires { Room s.now at end left before × (start ≡ body_start at) × (kind ≤ kind_number repeatKind) }
+    requires { Room s.now at end left before × (start ≡ body_start at) × (kind ≤ kind_number repeat_kind) }
     ensures { Tells end (left + 1) end before (of_kind kind (walk_record left s.now) s.now at before) result }
 {
     match kind {
@@ -196,10 +196,10 @@ fn body(
 }
 
 // A group: 7, then the one record inside.
-#[cycle(all_inside_any_record_body_group_one_inside_repeat)]
+#[cycle(reading)]
 fn group(s: &[u8], at: usize, start: usize, end: usize, left: usize, before: usize) -> Walked
     requires { Room s.now at end left before × (start ≡ body_start at) }
-    ensures { Tells end (left + 1) end before (body groupKind (walk_record left s.now) s.now at before) result }
+    ensures { Tells end (left + 1) end before (body group_kind (walk_record left s.now) s.now at before) result }
 {
     if before < Pattern::GROUPS {
         as_group(one_inside(s, at, start, end, left, before + 1))
@@ -209,10 +209,10 @@ fn group(s: &[u8], at: usize, start: usize, end: usize, left: usize, before: usi
 }
 
 // A repeat: its three numbers, then the one record inside.
-#[cycle(all_inside_any_record_body_group_one_inside_repeat)]
+#[cycle(reading)]
 fn repeat(s: &[u8], at: usize, start: usize, end: usize, left: usize, before: usize) -> Walked
     requires { Room s.now at end left before × (start ≡ body_start at) }
-    ensures { Tells end (left + 1) end before (body repeatKind (walk_record left s.now) s.now at before) result }
+    ensures { Tells end (left + 1) end before (body repeat_kind (walk_record left s.now) s.now at before) result }
 {
     if end - start < REPEAT_HEAD {
         return Walked::Refused(Refusal::BROKEN_RECORD, at);
@@ -232,7 +232,7 @@ fn repeat(s: &[u8], at: usize, start: usize, end: usize, left: usize, before: us
 }
 
 // The one record inside a group or a repeat, from an offset on: bytes left over behind it are a fault of the holder.
-#[cycle(all_inside_any_record_body_group_one_inside_repeat)]
+#[cycle(reading)]
 fn one_inside(
     s: &[u8],
     holder: usize,
@@ -267,7 +267,7 @@ fn one_inside(
 }
 
 // All the records inside a sequence or an alternation, left to right.
-#[cycle(all_inside_any_record_body_group_one_inside_repeat)]
+#[cycle(reading)]
 fn all_inside(s: &[u8], at: usize, start: usize, end: usize, left: usize, before: usize) -> Several
     requires { Room s.now at end left before × (start ≡ body_start at) }
     ensures { TellsAll left before (members_of (walk_record left s.now) s.now at before) result }

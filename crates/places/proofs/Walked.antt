@@ -13,7 +13,7 @@ use Rattle.paper.specs.Refusal.{Checked, refused, accepted, ◌>>=◌, ◌>>◌,
 use Rattle.paper.specs.Pattern.{Pattern, Members, all_places, groups}
 use Rattle.paper.specs.Pattern.Pattern.{nothing, empty, bytes, group, sequence, alternation, repeat}
 use Rattle.paper.specs.Pattern.Members.{two, more}
-use Rattle.paper.specs.Layout.{Kind, nothingKind, emptyKind, bytesKind, groupKind, sequenceKind, alternationKind, repeatKind, kind_number}
+use Rattle.paper.specs.Layout.{Kind, nothing_kind, empty_kind, bytes_kind, group_kind, sequence_kind, alternation_kind, repeat_kind, kind_number}
 use Rattle.paper.specs.Check.{number_at, body_length, kind_at, body_start, body_end, part, header, ranges_of, apart, set_right, byte_set, repeat_numbers_right, upper_of, mode_of, repeat_head, Walk, single, walk_all, at_least_two, several, body, walk_record, pattern_of}
 use Rattle.paper.proofs.layout.Accepted.{refused_not_accepted, accepted_injective, bind_accepted, holds_accepted, both_true}
 use Rattle.paper.proofs.layout.Standing.{length_part}
@@ -48,13 +48,13 @@ same_groups [] = refl
 same_groups (e ∷ es) = ap (λ (k : ℕ). groups e + k) (same_groups es)
 
 module _ (bs : List ℕ) (walk : Walk) (within : Within bs walk) (finds : Finds bs walk) (at before : ℕ) (fits : body_end bs at ≤ length bs) where
-  single_finds : (start groupsBefore : ℕ) (e : Pattern) → single walk bs at start groupsBefore ≡ accepted e
-      → Stood bs start groupsBefore e × (body_end bs start ≡ body_end bs at)
-  single_finds start groupsBefore e accepts =
+  single_finds : (start groups_before : ℕ) (e : Pattern) → single walk bs at start groups_before ≡ accepted e
+      → Stood bs start groups_before e × (body_end bs start ≡ body_end bs at)
+  single_finds start groups_before e accepts =
       let (m, walked, f) =
-      bind_accepted (walk start (body_end bs at) groupsBefore) (λ m. holds (eqb (body_end bs start) (body_end bs at)) broken_record at >> accepted m) accepts in
+      bind_accepted (walk start (body_end bs at) groups_before) (λ m. holds (eqb (body_end bs start) (body_end bs at)) broken_record at >> accepted m) accepts in
       let (same, g) = holds_accepted (eqb (body_end bs start) (body_end bs at)) broken_record at (accepted m) f in (
-        subst (Stood bs start groupsBefore) (accepted_injective g) (finds start (body_end bs at) groupsBefore m fits walked),
+        subst (Stood bs start groups_before) (accepted_injective g) (finds start (body_end bs at) groups_before m fits walked),
         eqb-true (body_end bs start) (body_end bs at) same,
       )
 
@@ -65,13 +65,13 @@ module _ (bs : List ℕ) (walk : Walk) (within : Within bs walk) (finds : Finds 
       (walk_all_induction bs walk within (body_end bs at) (StoodAll bs (body_end bs at)) none one (body_length bs at) (body_start at) before es (omega arith)
       (omega arith) walked)
     where
-      none : (groupsBefore : ℕ) → StoodAll bs (body_end bs at) (body_end bs at) groupsBefore []
-      none groupsBefore = record { stand = refl; few = λ h. omega arith }
+      none : (groups_before : ℕ) → StoodAll bs (body_end bs at) (body_end bs at) groups_before []
+      none groups_before = record { stand = refl; few = λ h. omega arith }
 
-      one : (from groupsBefore : ℕ) (m : Pattern) (ms : List Pattern) → from < body_end bs at → walk from (body_end bs at) groupsBefore ≡ accepted m
-          → StoodAll bs (body_end bs at) (body_end bs from) (groupsBefore + groups m) ms → StoodAll bs (body_end bs at) from groupsBefore (m ∷ ms)
-      one from groupsBefore m ms _ walked rest =
-          let first = finds from (body_end bs at) groupsBefore m fits walked in
+      one : (from groups_before : ℕ) (m : Pattern) (ms : List Pattern) → from < body_end bs at → walk from (body_end bs at) groups_before ≡ accepted m
+          → StoodAll bs (body_end bs at) (body_end bs from) (groups_before + groups m) ms → StoodAll bs (body_end bs at) from groups_before (m ∷ ms)
+      one from groups_before m ms _ walked rest =
+          let first = finds from (body_end bs at) groups_before m fits walked in
           record { stand = (first.stand, rest.stand); few = λ h. omega (arith, rest.few (first.few h)) }
 
   set_finds : (e : Pattern) → kind_at bs at ≡ 2 → byte_set bs at ≡ accepted e → Stood bs at before e
@@ -96,7 +96,7 @@ module _ (bs : List ℕ) (walk : Walk) (within : Within bs walk) (finds : Finds 
         few = λ h. omega arith;
       })
 
-  group_finds : (e : Pattern) → kind_at bs at ≡ 3 → body groupKind walk bs at before ≡ accepted e → Stood bs at before e
+  group_finds : (e : Pattern) → kind_at bs at ≡ 3 → body group_kind walk bs at before ≡ accepted e → Stood bs at before e
   group_finds e named accepts =
       let inner = single walk bs at (body_start at) (before + 1) in
       let (t, f) = holds_accepted (ltb before pattern_groups) too_many_groups at (inner >>= λ m. accepted (group m)) accepts in
@@ -106,7 +106,7 @@ module _ (bs : List ℕ) (walk : Walk) (within : Within bs walk) (finds : Finds 
       subst (Stood bs at before) (accepted_injective g)
       (record { stand = (named, found.stand, same); few = λ h. omega (arith, found.few (omega arith)) })
 
-  repeat_finds : (e : Pattern) → kind_at bs at ≡ 6 → body repeatKind walk bs at before ≡ accepted e → Stood bs at before e
+  repeat_finds : (e : Pattern) → kind_at bs at ≡ 6 → body repeat_kind walk bs at before ≡ accepted e → Stood bs at before e
   repeat_finds e named accepts =
       let start = body_start at in
       let least = number_at bs start in
@@ -137,25 +137,25 @@ module _ (bs : List ℕ) (walk : Walk) (within : Within bs walk) (finds : Finds 
       })
 
   body_finds : (k : Kind) (e : Pattern) → kind_at bs at ≡ kind_number k → body k walk bs at before ≡ accepted e → Stood bs at before e
-  body_finds nothingKind e named accepts =
+  body_finds nothing_kind e named accepts =
       let (t, f) = holds_accepted (eqb (body_length bs at) 0) broken_record at (accepted nothing) accepts in
       subst (Stood bs at before) (accepted_injective f) (record { stand = named; few = λ h. omega arith })
-  body_finds emptyKind e named accepts =
+  body_finds empty_kind e named accepts =
       let (t, f) = holds_accepted (eqb (body_length bs at) 0) broken_record at (accepted empty) accepts in
       subst (Stood bs at before) (accepted_injective f) (record { stand = named; few = λ h. omega arith })
-  body_finds bytesKind e named accepts = set_finds e named accepts
-  body_finds groupKind e named accepts = group_finds e named accepts
-  body_finds sequenceKind e named accepts =
+  body_finds bytes_kind e named accepts = set_finds e named accepts
+  body_finds group_kind e named accepts = group_finds e named accepts
+  body_finds sequence_kind e named accepts =
       let (ms, walked, f) = bind_accepted (several walk bs at before) (λ ms. accepted (sequence ms)) accepts in
       let found = several_finds ms walked in
       subst (Stood bs at before) (accepted_injective f)
       (record { stand = (named, row_members ms bs _ _ found.stand); few = λ h. omega (arith, found.few h, groups_listed ms, same_groups (list_of ms)) })
-  body_finds alternationKind e named accepts =
+  body_finds alternation_kind e named accepts =
       let (ms, walked, f) = bind_accepted (several walk bs at before) (λ ms. accepted (alternation ms)) accepts in
       let found = several_finds ms walked in
       subst (Stood bs at before) (accepted_injective f)
       (record { stand = (named, row_members ms bs _ _ found.stand); few = λ h. omega (arith, found.few h, groups_listed ms, same_groups (list_of ms)) })
-  body_finds repeatKind e named accepts = repeat_finds e named accepts
+  body_finds repeat_kind e named accepts = repeat_finds e named accepts
 
 -- what the walk accepts stands
 pub walk_stands : (bs : List ℕ) (left : ℕ) → Finds bs (walk_record left bs)

@@ -16,7 +16,7 @@ use walk::{Part, headed, one};
 // Builds an accepted pattern's places for a whole match, and answers how many they are. Checking has told the pattern's own places and its groups.
 pub fn build_match(pattern: &[u8], table: &mut [u16], places: usize, groups: usize) -> usize
     requires accepted { Accepted pattern.now places groups }
-    requires table_room_in_bounds { table_room ≤ length table.old }
+    requires room { table_room ≤ length table.old }
     ensures { BuiltMatch pattern.now table.old table.new result }
 {
     let part = Part {
@@ -34,7 +34,7 @@ pub fn build_match(pattern: &[u8], table: &mut [u16], places: usize, groups: usi
 // Builds an accepted pattern's places for a search, with those of the wrap around it, and answers how many they are.
 pub fn build_search(pattern: &[u8], table: &mut [u16], places: usize, groups: usize) -> usize
     requires accepted { Accepted pattern.now places groups }
-    requires table_room_in_bounds { table_room ≤ length table.old }
+    requires room { table_room ≤ length table.old }
     ensures { BuiltSearch pattern.now table.old table.new result }
 {
     let close = 5 + places;

@@ -64,7 +64,7 @@ fn own_groups(kind: usize, groups: usize) -> usize
 }
 
 // What the records from an offset up to the end of their holder add up to.
-#[cycle(count_counted)]
+#[cycle(counting)]
 fn count(pattern: &[u8], at: usize, stop: usize) -> Sums
     requires { Counting pattern.now at stop }
     ensures { Counted pattern.now at stop result.places result.groups result.records }
@@ -92,7 +92,7 @@ fn count(pattern: &[u8], at: usize, stop: usize) -> Sums
 }
 
 // The same, without a call where there is none: most records have no records inside.
-#[cycle(count_counted)]
+#[cycle(counting)]
 fn counted(pattern: &[u8], at: usize, stop: usize) -> Sums
     requires { Counting pattern.now at stop }
     ensures { Counted pattern.now at stop result.places result.groups result.records }
@@ -110,7 +110,7 @@ fn counted(pattern: &[u8], at: usize, stop: usize) -> Sums
 // What one record adds up to, without a call of `count` where it has no records inside.
 pub fn alone(pattern: &[u8], at: usize, stop: usize) -> Sums
     requires counting { Counting pattern.now at stop }
-    requires at_value { body_end pattern.now at ≡ stop }
+    requires ends { body_end pattern.now at ≡ stop }
     ensures { Counted pattern.now at stop result.places result.groups result.records }
 {
     let kind = number_at(pattern, at + 2);

@@ -24,15 +24,15 @@ pub struct Part {
 
 // Where the record at an offset ends.
 fn record_end(pattern: &[u8], at: usize) -> usize
-    requires at_in_bounds { at + 4 ≤ length pattern.now }
-    requires pattern_len_bound { length pattern.now ≤ pattern_bytes }
+    requires header { at + 4 ≤ length pattern.now }
+    requires short { length pattern.now ≤ pattern_bytes }
     ensures { result ≡ body_end pattern.now at }
 {
     at + 4 + number_at(pattern, at)
 }
 
 // A place that stands before one expression, and that expression behind it: an open, or a begin of a pass.
-#[cycle(chained_forked_headed_one_repeated_row)]
+#[cycle(walking)]
 pub fn headed(
     pattern: &[u8],
     table: &mut [u16],
@@ -45,7 +45,7 @@ pub fn headed(
 )
     requires one { One pattern.now part.at part.stop (base + 1) next part.first part.places part.groups }
     requires head { Head kind a n }
-    requires table_room_in_bounds { table_room ≤ length table.old }
+    requires room { table_room ≤ length table.old }
     ensures { HeadLaid pattern.now part.at part.stop kind a n base next part.first part.places part.groups table.old table.new }
 {
     put(
@@ -60,10 +60,10 @@ pub fn headed(
 }
 
 // The places of one repeat: the inner part of its first pass, and the passes around it and its copies.
-#[cycle(chained_forked_headed_one_repeated_row)]
+#[cycle(walking)]
 fn repeated(pattern: &[u8], table: &mut [u16], part: Part, base: usize, next: usize)
     requires repeat { Repeat pattern.now (part.at + 4) part.stop base next part.first part.places part.groups }
-    requires table_room_in_bounds { table_room ≤ length table.old }
+    requires room { table_room ≤ length table.old }
     ensures { RepeatLaid pattern.now (part.at + 4) part.stop base next part.first part.places part.groups table.old table.new }
 {
     let start = part.at + 4;
@@ -95,10 +95,10 @@ fn repeated(pattern: &[u8], table: &mut [u16], part: Part, base: usize, next: us
 }
 
 // The places of one record.
-#[cycle(chained_forked_headed_one_repeated_row)]
+#[cycle(walking)]
 pub fn one(pattern: &[u8], table: &mut [u16], part: Part, base: usize, next: usize)
     requires one { One pattern.now part.at part.stop base next part.first part.places part.groups }
-    requires table_room_in_bounds { table_room ≤ length table.old }
+    requires room { table_room ≤ length table.old }
     ensures { OneLaid pattern.now part.at part.stop base next part.first part.places part.groups table.old table.new }
 {
     let at = part.at;
@@ -147,10 +147,10 @@ pub fn one(pattern: &[u8], table: &mut [u16], part: Part, base: usize, next: usi
 }
 
 // The places of records that stand one after another, as a sequence or with the forks of an alternation.
-#[cycle(chained_forked_headed_one_repeated_row)]
+#[cycle(walking)]
 fn row(pattern: &[u8], table: &mut [u16], part: Part, forks: bool, base: usize, next: usize)
     requires several { Several pattern.now part.at part.stop forks base next part.first part.places part.groups }
-    requires table_room_in_bounds { table_room ≤ length table.old }
+    requires room { table_room ≤ length table.old }
     ensures { SeveralLaid pattern.now part.at part.stop forks base next part.first part.places part.groups table.old table.new }
 {
     if forks {
@@ -161,10 +161,10 @@ fn row(pattern: &[u8], table: &mut [u16], part: Part, forks: bool, base: usize, 
 }
 
 // The records of an alternation, each but the last behind its fork.
-#[cycle(chained_forked_headed_one_repeated_row)]
+#[cycle(walking)]
 fn forked(pattern: &[u8], table: &mut [u16], part: Part, base: usize, next: usize)
     requires several { Several pattern.now part.at part.stop true base next part.first part.places part.groups }
-    requires table_room_in_bounds { table_room ≤ length table.old }
+    requires room { table_room ≤ length table.old }
     ensures { SeveralLaid pattern.now part.at part.stop true base next part.first part.places part.groups table.old table.new }
 {
     let stop = part.stop;
@@ -214,10 +214,10 @@ fn forked(pattern: &[u8], table: &mut [u16], part: Part, base: usize, next: usiz
 }
 
 // The records of a sequence, each followed by the next that has places.
-#[cycle(chained_forked_headed_one_repeated_row)]
+#[cycle(walking)]
 fn chained(pattern: &[u8], table: &mut [u16], part: Part, base: usize, next: usize)
     requires several { Several pattern.now part.at part.stop false base next part.first part.places part.groups }
-    requires table_room_in_bounds { table_room ≤ length table.old }
+    requires room { table_room ≤ length table.old }
     ensures { SeveralLaid pattern.now part.at part.stop false base next part.first part.places part.groups table.old table.new }
 {
     let stop = part.stop;

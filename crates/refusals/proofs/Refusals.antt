@@ -9,7 +9,7 @@ use Rattle.paper.specs.Refusal.{Checked, refused, accepted}
 use Rattle.paper.specs.Check.{Numbers, check}
 use Rattle.paper.specs.Match.{Found, match_call, search_call, table_after}
 use Rattle.paper.specs.Replace.{Replaced, replace_call, replace_answer, buffer_after}
-use Rattle.paper.specs.PieceCalls.{Span, fromTemplate, fromLine, piece_call, part_call}
+use Rattle.paper.specs.PieceCalls.{Span, from_template, from_line, piece_call, part_call}
 use Rattle.paper.proofs.known.Known.{same, lent, filled, row1, many_b, dash, arrow_and_row1, abc}
 
 -- what can be asked: a pattern's numbers; a match or a search in a line, into a table; replacements by a template, into a buffer; a template's piece, by its number
@@ -215,13 +215,13 @@ replacements =
 abbrev pub pieces : List Case
 pieces =
     -- a literal: out of the template; the row that is wrong is not asked for
-    (piecing arrow_and_row1 abc (row1 3 2) 0 gives put (accepted (record { source = fromTemplate; start = 4; end = 6 })) (45 ∷ 62 ∷ []))
+    (piecing arrow_and_row1 abc (row1 3 2) 0 gives put (accepted (record { source = from_template; start = 4; end = 6 })) (45 ∷ 62 ∷ []))
     -- a reference: out of the line
-    ∷ (piecing arrow_and_row1 abc (row1 1 3) 1 gives put (accepted (record { source = fromLine; start = 1; end = 3 })) (98 ∷ 99 ∷ []))
+    ∷ (piecing arrow_and_row1 abc (row1 1 3) 1 gives put (accepted (record { source = from_line; start = 1; end = 3 })) (98 ∷ 99 ∷ []))
     -- an empty row is present
-    ∷ (piecing arrow_and_row1 abc (row1 3 3) 1 gives put (accepted (record { source = fromLine; start = 3; end = 3 })) [])
+    ∷ (piecing arrow_and_row1 abc (row1 3 3) 1 gives put (accepted (record { source = from_line; start = 3; end = 3 })) [])
     -- an absent row: the empty part at the line's start
-    ∷ (piecing arrow_and_row1 abc (row1 65535 65535) 1 gives put (accepted (record { source = fromLine; start = 0; end = 0 })) [])
+    ∷ (piecing arrow_and_row1 abc (row1 65535 65535) 1 gives put (accepted (record { source = from_line; start = 0; end = 0 })) [])
     -- a start above its end
     ∷ (piecing arrow_and_row1 abc (row1 2 1) 1 gives put (refused 15 0) [])
     -- an end past the line's

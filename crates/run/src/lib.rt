@@ -78,8 +78,8 @@ fn step(
     made: u32,
 ) -> Visited
     requires stepping { Stepping code.now pattern.now places at seen.old taken.old (list_of places second lists.old) number (list_of places (not second) lists.old) pending.old made }
-    requires places_in_bounds { 2 * (thread_numbers * (places + 1)) ≤ length lists.old }
-    requires at_in_bounds { at ≤ length line.now }
+    requires lists_room { 2 * (thread_numbers * (places + 1)) ≤ length lists.old }
+    requires inside { at ≤ length line.now }
     ensures { Steps code.now pattern.now line.now places at seen.old taken.old (list_of places second lists.old) number made seen.new taken.new (list_of places (not second) lists.new) result.count result.steps result.done }
 {
     let long = threads::THREAD * (places + 1);

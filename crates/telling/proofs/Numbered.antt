@@ -8,13 +8,13 @@ use Rattle.paper.specs.Limits.{pattern_bytes, pattern_levels, pattern_groups, pa
 use Rattle.paper.specs.Refusal.{Checked, refused, accepted, ◌>>=◌, ◌>>◌, holds}
 use Rattle.paper.specs.Refusal.{pattern_too_long, broken_record, set_wrong, repeat_wrong, too_deep, too_many_groups, too_many_places, template_wrong, reference_too_high, line_too_long, table_too_short, output_too_long, too_many_steps, row_wrong}
 use Rattle.paper.specs.Pattern.{Pattern, all_places, groups}
-use Rattle.paper.specs.Layout.{Kind, nothingKind, emptyKind, bytesKind, groupKind, sequenceKind, alternationKind, repeatKind, kinds, kind_number}
+use Rattle.paper.specs.Layout.{Kind, nothing_kind, empty_kind, bytes_kind, group_kind, sequence_kind, alternation_kind, repeat_kind, kinds, kind_number}
 use Rattle.paper.specs.Check.{number_at, body_length, kind_at, body_start, body_end, part, set_right, repeat_head, repeat_numbers_right, Walk, kind_among, header, single, walk_all, at_least_two, several, body, walk_record, pattern_of, numbers_of, check, ranges_of, upper_of, mode_of}
 use Rattle.paper.specs.Rows.{Rows, row_start, row_end}
 use Rattle.paper.specs.Match.{whole_match, search, match_steps, search_steps, line_and_table, counted, Found, match_call, search_call, told}
 use Rattle.paper.specs.Template.{Piece, literal, reference, literal_kind, reference_kind, literal_at, reference_at, piece_at, pieces_from, template_of, within}
 use Rattle.paper.specs.Replace.{replace_all, replace_call, Replaced, replace_answer}
-use Rattle.paper.specs.PieceCalls.{is_absent, span_at, row_span, piece_call, fromLine}
+use Rattle.paper.specs.PieceCalls.{is_absent, span_at, row_span, piece_call, from_line}
 use lib.Dec.{leb, ltb, eqb}
 use lib.ListN.{length}
 use Rattle.telling.specs.Told.{Numbered}
@@ -79,17 +79,17 @@ module _ (walk : Walk) (walked : (at stop before : ℕ) → Named (walk at stop 
   several_named at before = then (all_named (body_length bs at) (body_start at) (body_end bs at) before) (λ es. two_named es at)
 
   body_named : (kind : Kind) (at before : ℕ) → Named (body kind walk bs at before)
-  body_named nothingKind at before = asked (eqb (body_length bs at) 0) broken_record at (omega arith) (omega arith) (yes {a = Pattern.nothing})
-  body_named emptyKind at before = asked (eqb (body_length bs at) 0) broken_record at (omega arith) (omega arith) (yes {a = Pattern.empty})
-  body_named bytesKind at before =
+  body_named nothing_kind at before = asked (eqb (body_length bs at) 0) broken_record at (omega arith) (omega arith) (yes {a = Pattern.nothing})
+  body_named empty_kind at before = asked (eqb (body_length bs at) 0) broken_record at (omega arith) (omega arith) (yes {a = Pattern.empty})
+  body_named bytes_kind at before =
       let inside = part bs (body_start at) (body_end bs at) in
       asked (set_right inside) set_wrong at (omega arith) (omega arith) (yes {a = Pattern.bytes (ranges_of inside)})
-  body_named groupKind at before =
+  body_named group_kind at before =
       asked (ltb before pattern_groups) too_many_groups at (omega arith) (omega arith)
       (then (single_named at (body_start at) (before + 1)) (λ e. yes {a = Pattern.group e}))
-  body_named sequenceKind at before = then (several_named at before) (λ ms. yes {a = Pattern.sequence ms})
-  body_named alternationKind at before = then (several_named at before) (λ ms. yes {a = Pattern.alternation ms})
-  body_named repeatKind at before =
+  body_named sequence_kind at before = then (several_named at before) (λ ms. yes {a = Pattern.sequence ms})
+  body_named alternation_kind at before = then (several_named at before) (λ ms. yes {a = Pattern.alternation ms})
+  body_named repeat_kind at before =
       let start = body_start at in
       let least = number_at bs start in
       let most = number_at bs (start + 2) in
@@ -174,8 +174,8 @@ pieces_named (suc turns) bs at =
 
 row_named : (size start end : ℕ) → Named (row_span size start end)
 row_named size start end =
-    either (is_absent start end) (yes {a = record { source = fromLine; start = 0; end = 0 }})
-    (asked (leb start end && leb end size) row_wrong 0 (omega arith) (omega arith) (yes {a = record { source = fromLine; start = start; end = end }}))
+    either (is_absent start end) (yes {a = record { source = from_line; start = 0; end = 0 }})
+    (asked (leb start end && leb end size) row_wrong 0 (omega arith) (omega arith) (yes {a = record { source = from_line; start = start; end = end }}))
 
 span_named : (pieces : List Piece) (n size : ℕ) (table : Rows) → Named (span_at pieces n size table)
 span_named [] n size table = no (omega arith) (omega arith)

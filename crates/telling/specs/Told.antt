@@ -4,7 +4,7 @@ use Rattle.paper.specs.Refusal.{Checked, refused, accepted, ◌>>=◌}
 use Rattle.paper.specs.Check.{Numbers}
 use Rattle.paper.specs.Match.{Told}
 use Rattle.paper.specs.Replace.{Replaced}
-use Rattle.paper.specs.PieceCalls.{Source, fromTemplate, fromLine, Span}
+use Rattle.paper.specs.PieceCalls.{Source, from_template, from_line, Span}
 use Rattle.machine.specs.declared.Built.{Built}
 use Rattle.machine.specs.declared.Built.TheVariants.{Refused, Machine}
 
@@ -52,8 +52,8 @@ found_numbers answer = answer >>= λ t. accepted (flag t.matched ∷ t.steps ∷
 
 -- where the part stands, its start and its end
 abbrev pub source_number : Source → ℕ
-source_number fromTemplate = 0
-source_number fromLine = 1
+source_number from_template = 0
+source_number from_line = 1
 
 abbrev pub span_numbers : Checked Span → Checked (List ℕ)
 span_numbers answer = answer >>= λ s. accepted (source_number s.source ∷ s.start ∷ s.end ∷ [])

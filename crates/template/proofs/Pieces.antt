@@ -14,15 +14,15 @@ use Rattle.paper.specs.Rows.{Rows, row_start, row_end}
 use Rattle.paper.specs.Match.{line_and_table}
 use Rattle.paper.specs.Check.{number_at, body_length, kind_at, body_start, body_end}
 use Rattle.paper.specs.Template.{Piece, literal, reference, literal_kind, reference_kind, piece_at, template_of}
-use Rattle.paper.specs.PieceCalls.{Span, fromTemplate, fromLine, is_absent, row_span, span_of, span_at, piece_call, source_bytes}
+use Rattle.paper.specs.PieceCalls.{Span, from_template, from_line, is_absent, row_span, span_of, span_at, piece_call, source_bytes}
 use Rattle.template.specs.declared.Record.{Record}
 use Rattle.template.specs.Record.{Shows, From}
-use Rattle.template.proofs.Records.{never, piece_ends, from_template, nth_from, wrong_from}
+use Rattle.template.proofs.Records.{never, piece_ends, from_template_law, nth_from, wrong_from}
 
 -- ---- a row
 
 module _ (size start end : ℕ) where
-  pub row_absent : start ≡ absent → end ≡ absent → accepted (record { source = fromLine; start = 0; end = 0 }) ≡ row_span size start end
+  pub row_absent : start ≡ absent → end ≡ absent → accepted (record { source = from_line; start = 0; end = 0 }) ≡ row_span size start end
   row_absent s e = rw (eq-eqb start absent s, eq-eqb end absent e)
 
   -- a row of which one number is not 65,535 is there
@@ -33,7 +33,7 @@ module _ (size start end : ℕ) where
   end_there other = rw (ne_eqb end absent other) (and-false (eqb start absent))
 
   pub row_right : is_absent start end ≡ false → start ≤ end → end ≤ size
-      → accepted (record { source = fromLine; start = start; end = end }) ≡ row_span size start end
+      → accepted (record { source = from_line; start = start; end = end }) ≡ row_span size start end
   row_right there up fits = rw (there, le-leb start end up, le-leb end size fits)
 
   pub row_long : is_absent start end ≡ false → start ≤ end → size < end → refused row_wrong 0 ≡ row_span size start end
@@ -157,14 +157,14 @@ module _ (template line : List ℕ) (span : Span) where
   row_inside start end is = look (is_absent start end) (leb start end) refl (leb end (length line)) refl is
     where
       look : (none up : Bool) → leb start end ≡ up → (fits : Bool) → leb end (length line) ≡ fits
-          → cond none (accepted (record { source = fromLine; start = 0; end = 0 }))
-          (holds (up && fits) row_wrong 0 >> accepted (record { source = fromLine; start = start; end = end })) ≡ accepted span
+          → cond none (accepted (record { source = from_line; start = 0; end = 0 }))
+          (holds (up && fits) row_wrong 0 >> accepted (record { source = from_line; start = start; end = end })) ≡ accepted span
           → Inside template line span
       look true up u fits f is =
-          let same : record { source = fromLine; start = 0; end = 0 } ≡ span = cc in
+          let same : record { source = from_line; start = 0; end = 0 } ≡ span = cc in
           subst (Inside template line) same (omega arith, omega arith)
       look false true u true f is =
-          let same : record { source = fromLine; start = start; end = end } ≡ span = cc in
+          let same : record { source = from_line; start = start; end = end } ≡ span = cc in
           subst (Inside template line) same (leb-true _ _ u, leb-true _ _ f)
       look false true u false f is = never is
       look false false u fits f is = never is
@@ -172,7 +172,7 @@ module _ (template line : List ℕ) (span : Span) where
   piece_inside : (at : ℕ) (piece : Piece) (table : Rows)
       → piece_at template at ≡ accepted piece → span_of piece (length line) table ≡ accepted span → Inside template line span
   piece_inside at (literal place start end) table here is =
-      let same : record { source = fromTemplate; start = start; end = end } ≡ span = cc in
+      let same : record { source = from_template; start = start; end = end } ≡ span = cc in
       subst (Inside template line) same (literal_inside template at place start end here)
   piece_inside at (reference place row) table here is = row_inside (row_start row table) (row_end row table) is
 
@@ -190,6 +190,6 @@ module _ (template line : List ℕ) (span : Span) where
           → (found >>= λ pieces. (holds short line_too_long 0 >> holds long table_too_short 0) >> span_at pieces number (length line) table) ≡ accepted span
           → Inside template line span
       look (refused n p) f short long is = never is
-      look (accepted pieces) f true true is = pieces_inside pieces 0 number table (from_template template pieces f) is
+      look (accepted pieces) f true true is = pieces_inside pieces 0 number table (from_template_law template pieces f) is
       look (accepted pieces) f true false is = never is
       look (accepted pieces) f false long is = never is

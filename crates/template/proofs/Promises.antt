@@ -9,7 +9,7 @@ use borrow.Rule.Slice.Shared.{by_byte}
 use borrow.Rule.Slice.Prefix.{sl_ptr_p}
 use borrow.Rule.Slice.PartAt.{sl_part}
 use Rattle.paper.specs.Refusal.{Checked, refused, accepted}
-use Rattle.paper.specs.PieceCalls.{Source, fromTemplate, fromLine, Span, piece_call}
+use Rattle.paper.specs.PieceCalls.{Source, from_template, from_line, Span, piece_call}
 use Rattle.template.specs.declared.Answer.{Answer}
 use Rattle.template.specs.Answer.{answer_of, source_slice, IsPart}
 
@@ -33,8 +33,8 @@ module _ (answer : Checked Span) (template line : Bor (List ℕ)) (name : ℕ) w
     where
       by_source : (s : Source)
           → IsPart (accepted (record { source = s; start = start; end = end })) template line (cut_out (source_slice s template line) start end name)
-      by_source fromTemplate = record { bytes = refl; stands = ap (λ (n : ℕ). (template.ref_ptr.0, n)) (add_comm start template.ref_ptr.1) }
-      by_source fromLine = record { bytes = refl; stands = ap (λ (n : ℕ). (line.ref_ptr.0, n)) (add_comm start line.ref_ptr.1) }
+      by_source from_template = record { bytes = refl; stands = ap (λ (n : ℕ). (template.ref_ptr.0, n)) (add_comm start template.ref_ptr.1) }
+      by_source from_line = record { bytes = refl; stands = ap (λ (n : ℕ). (line.ref_ptr.0, n)) (add_comm start line.ref_ptr.1) }
 
 -- ---- one answer each
 
@@ -58,9 +58,9 @@ answers_differ (Answer.Refused n p) (Answer.Template s e) is = cc
 answers_differ (Answer.Refused n p) (Answer.Line s e) is = cc
 answers_differ (Answer.Template s e) (Answer.Refused n p) is = cc
 answers_differ (Answer.Template s e) (Answer.Template t f) is = ap₂ Answer.Template (ap (start_or 0) is) (ap (end_or 0) is)
-answers_differ (Answer.Template s e) (Answer.Line t f) is = cc (ap (source_or fromLine) is)
+answers_differ (Answer.Template s e) (Answer.Line t f) is = cc (ap (source_or from_line) is)
 answers_differ (Answer.Line s e) (Answer.Refused n p) is = cc
-answers_differ (Answer.Line s e) (Answer.Template t f) is = cc (ap (source_or fromLine) is)
+answers_differ (Answer.Line s e) (Answer.Template t f) is = cc (ap (source_or from_line) is)
 answers_differ (Answer.Line s e) (Answer.Line t f) is = ap₂ Answer.Line (ap (start_or 0) is) (ap (end_or 0) is)
 
 -- the first call's promise allows one answer

@@ -116,8 +116,8 @@ from_pieces (suc turns) bs at pieces enough is =
         subst (From bs at) some (ltb-true _ _ test, f, behind rest o)
 
 -- the pieces of a template are its records from the start on
-pub from_template : (bs : List ℕ) (pieces : List Piece) → template_of bs ≡ accepted pieces → From bs 0 pieces
-from_template bs pieces is = look (leb (length bs) template_bytes) is
+pub from_template_law : (bs : List ℕ) (pieces : List Piece) → template_of bs ≡ accepted pieces → From bs 0 pieces
+from_template_law bs pieces is = look (leb (length bs) template_bytes) is
   where
     look : (b : Bool) → (holds b template_wrong 0 >> pieces_from (length bs) bs 0) ≡ accepted pieces → From bs 0 pieces
     look true is = from_pieces (length bs) bs 0 pieces (omega arith) is

@@ -12,7 +12,7 @@ use Rattle.paper.specs.Check.{body_end}
 use Rattle.paper.specs.Template.{Piece, literal, reference, piece_at, pieces_from, template_of, within}
 use Rattle.template.specs.declared.Record.{Record}
 use Rattle.template.specs.Record.{Shows, From, Numbered, record_count}
-use Rattle.template.proofs.Records.{piece_ends, from_template, none_from, nth_from, literal_from, reference_from, wrong_from, numbered_low}
+use Rattle.template.proofs.Records.{piece_ends, from_template_law, none_from, nth_from, literal_from, reference_from, wrong_from, numbered_low}
 
 -- ---- counting
 
@@ -102,7 +102,7 @@ pub record Seeking (bs : List ℕ) (groups at : ℕ) : Type 0 where
 
 module _ (bs : List ℕ) (groups : ℕ) where
   pub seek_start : Seeking bs groups 0
-  seek_start = record { inside = omega arith; left = λ pieces is. (pieces, from_template bs pieces is, refl) }
+  seek_start = record { inside = omega arith; left = λ pieces is. (pieces, from_template_law bs pieces is, refl) }
 
   module _ (at : ℕ) (kept : Seeking bs groups at) where
     pub seek_literal : at < length bs → (start end : ℕ) → Shows bs at (Record.Literal start end) → Seeking bs groups end
@@ -158,7 +158,7 @@ module _ (bs : List ℕ) (number : ℕ) where
   pub reach_start : Reaching bs number 0 number
   reach_start =
       let none : 0 ≡ number - number = omega arith in
-      record { low = omega arith; from = λ pieces is. subst (λ (n : ℕ). From bs 0 (drop n pieces)) none (from_template bs pieces is) }
+      record { low = omega arith; from = λ pieces is. subst (λ (n : ℕ). From bs 0 (drop n pieces)) none (from_template_law bs pieces is) }
 
   module _ (at left : ℕ) (kept : Reaching bs number at left) (there : Numbered bs number) (some : 0 < left) where
     behind : (pieces : List Piece) → template_of bs ≡ accepted pieces

@@ -15,7 +15,7 @@ use Rattle.paper.specs.Template.{Piece, literal, reference, piece_at}
 use Rattle.paper.specs.Replace.{row_bytes, put_in}
 use Rattle.template.specs.declared.Record.{Record}
 use Rattle.template.specs.Record.{Shows, From}
-use Rattle.template.proofs.Records.{piece_ends, from_template, first_from, none_from, wrong_from}
+use Rattle.template.proofs.Records.{piece_ends, from_template_law, first_from, none_from, wrong_from}
 use Rattle.turns.specs.Accepted.{pieces_of, Right}
 use Rattle.turns.specs.Appended.{Appended}
 use Rattle.turns.proofs.Written.{nothing_written, written_on}
@@ -82,7 +82,7 @@ module _ (template line : List ℕ) (rows : Rows) where
 
   abbrev pub measure_start : Right template → Measuring 0 0
   measure_start right =
-      record { left = pieces_of template; from = from_template template (pieces_of template) right; inside = omega arith; sum = omega arith }
+      record { left = pieces_of template; from = from_template_law template (pieces_of template) right; inside = omega arith; sum = omega arith }
 
   pub measure_more : (place total next : ℕ) (piece : Piece) → Measuring place total → place < length template → piece_at template place ≡ accepted piece
       → next ≡ body_end template place → (more : ℕ) → more ≡ length (piece_bytes template line rows piece) → Measuring next (total + more)

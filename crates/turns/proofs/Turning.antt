@@ -58,9 +58,9 @@ module _ (size last : ℕ) (rows : Rows) (numbers : length rows ≡ table_number
       (inside_same rows 0 0 absent (omega arith))
       (inside_same rows 1 0 absent (omega arith))
 
-  by_tests : (nonEmpty byte : Bool) → ltb start end ≡ nonEmpty → ltb start size ≡ byte
-      → turn_by nonEmpty byte (suppressed start end (last_of last)) rows start end (last_of last) ≡ turn_of size (last_of last) (some rows)
-  by_tests nonEmpty byte e f =
+  by_tests : (non_empty byte : Bool) → ltb start end ≡ non_empty → ltb start size ≡ byte
+      → turn_by non_empty byte (suppressed start end (last_of last)) rows start end (last_of last) ≡ turn_of size (last_of last) (some rows)
+  by_tests non_empty byte e f =
       ap₂ (λ (a b : Bool). turn_by a b (suppressed start end (last_of last)) rows start end (last_of last)) (sym e) (sym f) ∙ by_numbers
 
   module _ (put : Bool) (puts : put ≡ not (suppressed start end (last_of last))) where

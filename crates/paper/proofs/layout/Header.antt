@@ -6,7 +6,7 @@ use mathlib.Core.List.{List, [], ◌∷◌}
 use lib.Dec.{leb, eqb}
 use borrow.Author.Tests.{leb-true, le-leb, eqb-true}
 use Rattle.paper.specs.Refusal.{refused, accepted, broken_record, too_deep}
-use Rattle.paper.specs.Layout.{Kind, nothingKind, emptyKind, bytesKind, groupKind, sequenceKind, alternationKind, repeatKind, kinds, kind_number}
+use Rattle.paper.specs.Layout.{Kind, nothing_kind, empty_kind, bytes_kind, group_kind, sequence_kind, alternation_kind, repeat_kind, kinds, kind_number}
 use Rattle.paper.specs.Check.{kind_at, body_end, kind_among, header, body, walk_record}
 use Rattle.paper.proofs.layout.Accepted.{refused_not_accepted, accepted_injective, bind_accepted, holds_accepted, holds_passes}
 use Rattle.paper.proofs.layout.Turns.{Within}
@@ -21,13 +21,13 @@ kind_found (j ∷ js) number at k e = look (eqb number (kind_number j)) refl e (
     look false t f later = later f
 
 kind_listed : (k : Kind) (at : ℕ) → kind_among kinds (kind_number k) at ≡ accepted k
-kind_listed nothingKind at = refl
-kind_listed emptyKind at = refl
-kind_listed bytesKind at = refl
-kind_listed groupKind at = refl
-kind_listed sequenceKind at = refl
-kind_listed alternationKind at = refl
-kind_listed repeatKind at = refl
+kind_listed nothing_kind at = refl
+kind_listed empty_kind at = refl
+kind_listed bytes_kind at = refl
+kind_listed group_kind at = refl
+kind_listed sequence_kind at = refl
+kind_listed alternation_kind at = refl
+kind_listed repeat_kind at = refl
 
 -- an accepted header: the record ends inside its holder, and has its kind's number
 pub header_accepted : (bs : List ℕ) (at stop : ℕ) (k : Kind) → header bs at stop ≡ accepted k → (body_end bs at ≤ stop) × (kind_at bs at ≡ kind_number k)

@@ -6,18 +6,18 @@ use mathlib.Core.List.{List, [], ◌++◌}
 use lib.ListN.{length}
 use Rattle.paper.specs.Pattern.{Pattern}
 use Rattle.paper.specs.Pattern.Pattern.{nothing, empty, bytes, group, sequence, alternation, repeat}
-use Rattle.paper.specs.Layout.{record_bytes, Kind, nothingKind, emptyKind, bytesKind, groupKind, sequenceKind, alternationKind, repeatKind, kind_number, range_bytes, repeat_bytes, record_of, records_of}
+use Rattle.paper.specs.Layout.{record_bytes, Kind, nothing_kind, empty_kind, bytes_kind, group_kind, sequence_kind, alternation_kind, repeat_kind, kind_number, range_bytes, repeat_bytes, record_of, records_of}
 use Rattle.paper.specs.Check.{body_end}
 use Rattle.paper.proofs.layout.Standing.{two_byte_end, Stands, Standing, record_standing}
 
 abbrev pub kind_of : Pattern → Kind
-kind_of nothing = nothingKind
-kind_of empty = emptyKind
-kind_of (bytes ranges) = bytesKind
-kind_of (group e) = groupKind
-kind_of (sequence ms) = sequenceKind
-kind_of (alternation ms) = alternationKind
-kind_of (repeat least upper mode e) = repeatKind
+kind_of nothing = nothing_kind
+kind_of empty = empty_kind
+kind_of (bytes ranges) = bytes_kind
+kind_of (group e) = group_kind
+kind_of (sequence ms) = sequence_kind
+kind_of (alternation ms) = alternation_kind
+kind_of (repeat least upper mode e) = repeat_kind
 
 abbrev pub body_of : Pattern → List ℕ
 body_of nothing = []
@@ -42,13 +42,13 @@ pub length_record : (e : Pattern) → length (record_of e) ≡ 4 + length (body_
 length_record e = ap length (record_of_body e) ∙ omega arith
 
 kind_small : (k : Kind) → kind_number k < two_byte_end
-kind_small nothingKind = omega arith
-kind_small emptyKind = omega arith
-kind_small bytesKind = omega arith
-kind_small groupKind = omega arith
-kind_small sequenceKind = omega arith
-kind_small alternationKind = omega arith
-kind_small repeatKind = omega arith
+kind_small nothing_kind = omega arith
+kind_small empty_kind = omega arith
+kind_small bytes_kind = omega arith
+kind_small group_kind = omega arith
+kind_small sequence_kind = omega arith
+kind_small alternation_kind = omega arith
+kind_small repeat_kind = omega arith
 
 -- a tree's record that stands at an offset has its numbers and its body there
 pub tree_standing : (bs : List ℕ) (at : ℕ) (e : Pattern) → length (record_of e) < two_byte_end → Stands bs at (record_of e) → Standing bs at (kind_number (kind_of e)) (body_of e)

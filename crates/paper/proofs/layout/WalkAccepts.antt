@@ -146,12 +146,12 @@ module _ (bs : List ℕ) where
       let counts = fit.made.0 in
       let most = upper_number upper in
       let last = mode_number mode in
-      let (leastRead, mostRead, modeRead) = numbers_read start least upper mode counts (stands_first bs start (repeat_bytes least upper mode) (record_of e) here.inside) in
+      let (least_read, most_read, mode_read) = numbers_read start least upper mode counts (stands_first bs start (repeat_bytes least upper mode) (record_of e) here.inside) in
       let inner = single (walk_record below bs) bs at (start + repeat_head) before in
       let behind : ℕ → ℕ → ℕ → Checked Pattern = λ a b c. inner >>= λ m. accepted (repeat a (upper_of b) (mode_of c) m) in
       let tested : ℕ → ℕ → ℕ → Checked Pattern = λ a b c. holds (repeat_numbers_right a b c) repeat_wrong at >> behind a b c in
       let found = tested (number_at bs start) (number_at bs (start + 2)) (number_at bs (start + 4)) in
-      let read : found ≡ tested least most last = λ i. tested (leastRead i) (mostRead i) (modeRead i) in
+      let read : found ≡ tested least most last = λ i. tested (least_read i) (most_read i) (mode_read i) in
       let back : accepted (repeat least (upper_of most) (mode_of last) e) ≡ accepted tree =
       λ i. accepted (repeat least (upper_of_number least upper counts i) (mode_of_number mode i) e) in
       holds_passes broken_record at found (le-leb repeat_head (body_length bs at) (omega (arith, here.size)))

@@ -11,7 +11,7 @@ use Rattle.paper.specs.Limits.{pattern_groups}
 use Rattle.paper.specs.Refusal.{refused, accepted, ◌>>=◌, ◌>>◌, holds, broken_record, set_wrong, repeat_wrong, too_deep, too_many_groups}
 use Rattle.paper.specs.Pattern.{Pattern, Members, groups, levels}
 use Rattle.paper.specs.Pattern.Pattern.{nothing, empty, bytes, group, sequence, alternation, repeat}
-use Rattle.paper.specs.Layout.{two_bytes, Kind, nothingKind, emptyKind, bytesKind, groupKind, sequenceKind, alternationKind, repeatKind, kind_number, upper_number, mode_number, repeat_bytes, record_of, WellMade}
+use Rattle.paper.specs.Layout.{two_bytes, Kind, nothing_kind, empty_kind, bytes_kind, group_kind, sequence_kind, alternation_kind, repeat_kind, kind_number, upper_number, mode_number, repeat_bytes, record_of, WellMade}
 use Rattle.paper.specs.Check.{number_at, body_length, kind_at, body_start, body_end, part, header, bare, ranges_of, set_right, byte_set, repeat_numbers_right, upper_of, mode_of, repeat_head, Walk, single, walk_all, at_least_two, several, body, walk_record}
 use Rattle.paper.proofs.layout.Accepted.{refused_not_accepted, accepted_injective, bind_accepted, holds_accepted}
 use Rattle.paper.proofs.layout.Standing.{Bytes, Stands, stands_at, stands_append, stands_number, stands_record, stands_part, length_part}
@@ -57,23 +57,23 @@ module _ (bs : List ℕ) (small : Bytes bs) (left at before : ℕ) where
 
 module _ (bs : List ℕ) (small : Bytes bs) (left : ℕ) (walk : Walk) (within : Within bs walk) (finds : Finds left bs walk) (at before : ℕ) (fits : body_end bs at ≤ length bs) where
   -- the single record inside a group or a repeat is there, and nothing behind it
-  single_finds : (start groupsBefore : ℕ) (e : Pattern) → single walk bs at start groupsBefore ≡ accepted e → Found left bs start groupsBefore e × (body_end bs start ≡ body_end bs at)
-  single_finds start groupsBefore e accepts =
-      let (m, walked, f) = bind_accepted (walk start (body_end bs at) groupsBefore) (λ m. holds (eqb (body_end bs start) (body_end bs at)) broken_record at >> accepted m) accepts in
+  single_finds : (start groups_before : ℕ) (e : Pattern) → single walk bs at start groups_before ≡ accepted e → Found left bs start groups_before e × (body_end bs start ≡ body_end bs at)
+  single_finds start groups_before e accepts =
+      let (m, walked, f) = bind_accepted (walk start (body_end bs at) groups_before) (λ m. holds (eqb (body_end bs start) (body_end bs at)) broken_record at >> accepted m) accepts in
       let (same, g) = holds_accepted (eqb (body_end bs start) (body_end bs at)) broken_record at (accepted m) f in
-      (subst (Found left bs start groupsBefore) (accepted_injective g) (finds start (body_end bs at) groupsBefore m fits walked), eqb-true (body_end bs start) (body_end bs at) same)
+      (subst (Found left bs start groups_before) (accepted_injective g) (finds start (body_end bs at) groups_before m fits walked), eqb-true (body_end bs start) (body_end bs at) same)
 
   all_found : (es : List Pattern) → walk_all (body_length bs at) walk bs (body_start at) (body_end bs at) before ≡ accepted es → FoundAll left bs (body_end bs at) (body_start at) before es
   all_found es =
       walk_all_induction bs walk within (body_end bs at) (FoundAll left bs (body_end bs at)) none one (body_length bs at) (body_start at) before es (omega arith) (omega arith)
     where
-      none : (groupsBefore : ℕ) → FoundAll left bs (body_end bs at) (body_end bs at) groupsBefore []
-      none groupsBefore = record { stands = tt; ends = omega arith; made = tt; low = tt; few = λ h. omega arith }
+      none : (groups_before : ℕ) → FoundAll left bs (body_end bs at) (body_end bs at) groups_before []
+      none groups_before = record { stands = tt; ends = omega arith; made = tt; low = tt; few = λ h. omega arith }
 
-      one : (from groupsBefore : ℕ) (m : Pattern) (ms : List Pattern) → from < body_end bs at → walk from (body_end bs at) groupsBefore ≡ accepted m
-          → FoundAll left bs (body_end bs at) (body_end bs from) (groupsBefore + groups m) ms → FoundAll left bs (body_end bs at) from groupsBefore (m ∷ ms)
-      one from groupsBefore m ms _ walked rest =
-          let first = finds from (body_end bs at) groupsBefore m fits walked in
+      one : (from groups_before : ℕ) (m : Pattern) (ms : List Pattern) → from < body_end bs at → walk from (body_end bs at) groups_before ≡ accepted m
+          → FoundAll left bs (body_end bs at) (body_end bs from) (groups_before + groups m) ms → FoundAll left bs (body_end bs at) from groups_before (m ∷ ms)
+      one from groups_before m ms _ walked rest =
+          let first = finds from (body_end bs at) groups_before m fits walked in
           record {
             stands = stands_append bs from (record_of m) (joined ms) first.stands (stands_at bs (joined ms) first.ends rest.stands);
             ends = omega (arith, length-append (record_of m) (joined ms), first.ends, rest.ends);
@@ -98,7 +98,7 @@ module _ (bs : List ℕ) (small : Bytes bs) (left : ℕ) (walk : Walk) (within :
       subst (Found (suc left) bs at before) (accepted_injective f)
       (found_around bs small (suc left) at before tree named size inside made (omega arith) (λ h. omega arith))
 
-  set_finds : (e : Pattern) → kind_at bs at ≡ kind_number bytesKind → byte_set bs at ≡ accepted e → Found (suc left) bs at before e
+  set_finds : (e : Pattern) → kind_at bs at ≡ kind_number bytes_kind → byte_set bs at ≡ accepted e → Found (suc left) bs at before e
   set_finds e named accepts =
       let inner = part bs (body_start at) (body_end bs at) in
       let (t, f) = holds_accepted (set_right inner) set_wrong at (accepted (bytes (ranges_of inner))) accepts in
@@ -113,7 +113,7 @@ module _ (bs : List ℕ) (small : Bytes bs) (left : ℕ) (walk : Walk) (within :
       (omega arith)
       (λ h. omega arith))
 
-  group_finds : (e : Pattern) → kind_at bs at ≡ kind_number groupKind → body groupKind walk bs at before ≡ accepted e → Found (suc left) bs at before e
+  group_finds : (e : Pattern) → kind_at bs at ≡ kind_number group_kind → body group_kind walk bs at before ≡ accepted e → Found (suc left) bs at before e
   group_finds e named accepts =
       let inner = single walk bs at (body_start at) (before + 1) in
       let (t, f) = holds_accepted (ltb before pattern_groups) too_many_groups at (inner >>= λ m. accepted (group m)) accepts in
@@ -138,7 +138,7 @@ module _ (bs : List ℕ) (small : Bytes bs) (left : ℕ) (walk : Walk) (within :
       (omega (arith, holder.low ms, levels_listed ms found.low))
       (λ h. omega (arith, holder.few ms, groups_listed ms, found.few h)))
 
-  repeat_finds : (e : Pattern) → kind_at bs at ≡ kind_number repeatKind → body repeatKind walk bs at before ≡ accepted e → Found (suc left) bs at before e
+  repeat_finds : (e : Pattern) → kind_at bs at ≡ kind_number repeat_kind → body repeat_kind walk bs at before ≡ accepted e → Found (suc left) bs at before e
   repeat_finds e named accepts =
       let start = body_start at in
       let least = number_at bs start in
@@ -167,13 +167,13 @@ module _ (bs : List ℕ) (small : Bytes bs) (left : ℕ) (walk : Walk) (within :
 
   -- an accepted record of each kind is there
   body_finds : (k : Kind) (e : Pattern) → kind_at bs at ≡ kind_number k → body k walk bs at before ≡ accepted e → Found (suc left) bs at before e
-  body_finds nothingKind e named accepts = bare_finds nothing e refl tt refl refl named accepts
-  body_finds emptyKind e named accepts = bare_finds empty e refl tt refl refl named accepts
-  body_finds bytesKind e named accepts = set_finds e named accepts
-  body_finds groupKind e named accepts = group_finds e named accepts
-  body_finds sequenceKind e named accepts = members_find sequence sequence_holds (λ ms. named) e accepts
-  body_finds alternationKind e named accepts = members_find alternation alternation_holds (λ ms. named) e accepts
-  body_finds repeatKind e named accepts = repeat_finds e named accepts
+  body_finds nothing_kind e named accepts = bare_finds nothing e refl tt refl refl named accepts
+  body_finds empty_kind e named accepts = bare_finds empty e refl tt refl refl named accepts
+  body_finds bytes_kind e named accepts = set_finds e named accepts
+  body_finds group_kind e named accepts = group_finds e named accepts
+  body_finds sequence_kind e named accepts = members_find sequence sequence_holds (λ ms. named) e accepts
+  body_finds alternation_kind e named accepts = members_find alternation alternation_holds (λ ms. named) e accepts
+  body_finds repeat_kind e named accepts = repeat_finds e named accepts
 
 -- the walk accepts only what is there
 pub walk_finds : (bs : List ℕ) → Bytes bs → (left : ℕ) → Finds left bs (walk_record left bs)

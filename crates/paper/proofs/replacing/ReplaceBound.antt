@@ -58,7 +58,7 @@ abbrev CostsPast : ℕ → ℕ → Scan → ℕ → Type 0
 CostsPast n p s b = (q : ℕ) (last : Option ℕ) → p < q → q ≤ n → (s q last).steps ≤ b
 
 scan_on_costs : (s : Scan) (line : List ℕ) (p start end : ℕ) (last : Option ℕ) (b : ℕ) → Ahead (length line) p start end → CostsPast (length line) p s b
-    → (nonEmpty byte : Bool) → ltb start end ≡ nonEmpty → ltb start (length line) ≡ byte → (scan_on nonEmpty byte s line start end last).steps ≤ b
+    → (non_empty byte : Bool) → ltb start end ≡ non_empty → ltb start (length line) ≡ byte → (scan_on non_empty byte s line start end last).steps ≤ b
 scan_on_costs s line p start end last b a costs true byte e f = costs end (some end) (omega (arith, ltb-true start end e)) a.within
 scan_on_costs s line p start end last b a costs false true e f =
     omega (arith, costs (start + 1) last (omega arith) (omega (arith, ltb-true start (length line) f)))

@@ -51,8 +51,8 @@ abbrev AgreePast : ℕ → ℕ → Scan → Scan → Type 0
 AgreePast n p s s' = (q : ℕ) (last : Option ℕ) → p < q → q ≤ n → s q last ≡ s' q last
 
 scan_on_agree : (s s' : Scan) (line : List ℕ) (p start end : ℕ) (last : Option ℕ) → Ahead (length line) p start end → AgreePast (length line) p s s'
-    → (nonEmpty byte : Bool) → ltb start end ≡ nonEmpty → ltb start (length line) ≡ byte
-    → scan_on nonEmpty byte s line start end last ≡ scan_on nonEmpty byte s' line start end last
+    → (non_empty byte : Bool) → ltb start end ≡ non_empty → ltb start (length line) ≡ byte
+    → scan_on non_empty byte s line start end last ≡ scan_on non_empty byte s' line start end last
 scan_on_agree s s' line p start end last a agree true byte e f = agree end (some end) (omega (arith, ltb-true start end e)) a.within
 scan_on_agree s s' line p start end last a agree false true e f =
     ap (precede (part line start (start + 1)) 0 0) (agree (start + 1) last (omega arith) (omega (arith, ltb-true start (length line) f)))

@@ -69,10 +69,10 @@ module _ (scan : Scan) (template line : List ℕ) (pieces : List Piece) (p : ℕ
       ∙ part_rest line p inside in
       same_scanned (sym all) (omega arith) (omega arith)
 
-  match_turn : (rows : Rows) (start end : ℕ) (nonEmpty byte kept : Bool)
-      → precede (part line p start ++ cond kept [] (put_in template line rows pieces)) (cond kept 0 1) steps (scan_on nonEmpty byte scan line start end last)
-      ≡ (let t = turn_by nonEmpty byte kept rows start end last in precede (turn_bytes template line pieces p t) (turn_count t) steps (turn_rest scan t))
-  match_turn rows start end nonEmpty byte kept = look nonEmpty byte
+  match_turn : (rows : Rows) (start end : ℕ) (non_empty byte kept : Bool)
+      → precede (part line p start ++ cond kept [] (put_in template line rows pieces)) (cond kept 0 1) steps (scan_on non_empty byte scan line start end last)
+      ≡ (let t = turn_by non_empty byte kept rows start end last in precede (turn_bytes template line pieces p t) (turn_count t) steps (turn_rest scan t))
+  match_turn rows start end non_empty byte kept = look non_empty byte
     where
       puts : List ℕ
       puts = cond (not kept) (put_in template line rows pieces) []
@@ -83,9 +83,9 @@ module _ (scan : Scan) (template line : List ℕ) (pieces : List Piece) (p : ℕ
       straight : part line p start ++ cond kept [] (put_in template line rows pieces) ≡ part line p start ++ (puts ++ part line start start)
       straight = copied ∙ ap (λ (l : List ℕ). part line p start ++ l) (sym (and_none puts line start))
 
-      look : (nonEmpty byte : Bool)
-          → precede (part line p start ++ cond kept [] (put_in template line rows pieces)) (cond kept 0 1) steps (scan_on nonEmpty byte scan line start end last)
-          ≡ (let t = turn_by nonEmpty byte kept rows start end last in precede (turn_bytes template line pieces p t) (turn_count t) steps (turn_rest scan t))
+      look : (non_empty byte : Bool)
+          → precede (part line p start ++ cond kept [] (put_in template line rows pieces)) (cond kept 0 1) steps (scan_on non_empty byte scan line start end last)
+          ≡ (let t = turn_by non_empty byte kept rows start end last in precede (turn_bytes template line pieces p t) (turn_count t) steps (turn_rest scan t))
       look true byte = ap₂ (λ (l : List ℕ) (n : ℕ). precede l n steps (scan end (some end))) straight (flip kept 0 1)
       look false true =
           let more = scan (start + 1) last in
@@ -110,7 +110,7 @@ module _ (scan : Scan) (template line : List ℕ) (pieces : List Piece) (p : ℕ
 -- ---- how a turn lies in the line
 
 turn_by_fits : (n p start end : ℕ) (rows : Rows) (last : Option ℕ) → Ahead n p start end → RowsFit n rows
-    → (nonEmpty byte kept : Bool) → ltb start end ≡ nonEmpty → ltb start n ≡ byte → TurnFits n p (turn_by nonEmpty byte kept rows start end last)
+    → (non_empty byte kept : Bool) → ltb start end ≡ non_empty → ltb start n ≡ byte → TurnFits n p (turn_by non_empty byte kept rows start end last)
 turn_by_fits n p start end rows last a fit true byte kept e f =
     record {
       from = a.from;

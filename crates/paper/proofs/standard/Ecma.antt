@@ -76,15 +76,15 @@ undefined_captures first n x = record { end = x.end; rows = clear first n x.rows
 
 -- 22.2.2.3.1, steps 8 to 12: with min above 0 only the pass; not greedy, first what is left and then the pass; greedy, the other way round
 abbrev pub pass_or_go_on : ℕ → Mode → MatchResult → MatchResult → MatchResult
-pass_or_go_on (suc min) mode pass goOn = pass
-pass_or_go_on zero lazy pass goOn = unless_failure goOn pass
-pass_or_go_on zero greedy pass goOn = unless_failure pass goOn
+pass_or_go_on (suc min) mode pass go_on = pass
+pass_or_go_on zero lazy pass go_on = unless_failure go_on pass
+pass_or_go_on zero greedy pass go_on = unless_failure pass go_on
 
 -- 22.2.2.3.1, step 1: with max 0 only what is left
 abbrev pub unless_none_left : Upper → MatchResult → MatchResult → MatchResult
-unless_none_left (up_to zero) goOn rest = goOn
-unless_none_left (up_to (suc max)) goOn rest = rest
-unless_none_left no_end goOn rest = rest
+unless_none_left (up_to zero) go_on rest = go_on
+unless_none_left (up_to (suc max)) go_on rest = rest
+unless_none_left no_end go_on rest = rest
 
 -- 22.2.2.3.1 RepeatMatcher. It calls itself without end; here the first number bounds how often, and `out` is what it answers past that bound
 abbrev pub repeat_matcher : ℕ → Matcher → Matcher → ℕ → Upper → Mode → ℕ → ℕ → Matcher

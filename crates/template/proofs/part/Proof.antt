@@ -4,7 +4,7 @@ use mathlib.Core.Path.{◌≡◌, sym, ◌∙◌, ap}
 use mathlib.Core.List.{List}
 use borrow.Author.Rules.{rules}
 use Rattle.paper.specs.Refusal.{Checked, accepted}
-use Rattle.paper.specs.PieceCalls.{Source, fromTemplate, fromLine, Span, piece_call}
+use Rattle.paper.specs.PieceCalls.{Source, from_template, from_line, Span, piece_call}
 use Rattle.template.specs.declared.Answer.{Answer}
 use Rattle.template.specs.Answer.{answer_of}
 use Rattle.template.proofs.Pieces.{Inside, call_inside}
@@ -33,19 +33,19 @@ inside c span is =
 
 in-template : (c : tie.After-known-told)
     → Inside c.before.before.before.before.before.before.before.args.template.now c.before.before.before.before.before.before.before.args.line.now
-    (record { source = fromTemplate; start = c.before.start.given.0.0; end = c.before.start.given.0.1.0 })
+    (record { source = from_template; start = c.before.start.given.0.0; end = c.before.start.given.0.1.0 })
 in-template c =
     let k = c.before.before.before in
     let g = c.before.start.given in
-    inside k (record { source = fromTemplate; start = g.0.0; end = g.0.1.0 }) (case k (Answer.Template g.0.0 g.0.1.0) g.1)
+    inside k (record { source = from_template; start = g.0.0; end = g.0.1.0 }) (case k (Answer.Template g.0.0 g.0.1.0) g.1)
 
 in-line : (c : tie.After-known-told2)
     → Inside c.before.before.before.before.before.before.before.args.template.now c.before.before.before.before.before.before.before.args.line.now
-    (record { source = fromLine; start = c.before.start2.given.0.0; end = c.before.start2.given.0.1.0 })
+    (record { source = from_line; start = c.before.start2.given.0.0; end = c.before.start2.given.0.1.0 })
 in-line c =
     let k = c.before.before.before in
     let g = c.before.start2.given in
-    inside k (record { source = fromLine; start = g.0.0; end = g.0.1.0 }) (case k (Answer.Line g.0.0 g.0.1.0) g.1)
+    inside k (record { source = from_line; start = g.0.0; end = g.0.1.0 }) (case k (Answer.Line g.0.0 g.0.1.0) g.1)
 
 -- ---- the needs
 
@@ -94,14 +94,14 @@ returns-2 c =
     let k = c.before.before.before.before in
     let s = k.before.before.before.before.args in
     let g = c.before.before.start.given in
-    part_of (due k) s.template s.line c.result2.given.0 fromTemplate g.0.0 g.0.1.0 (case k (Answer.Template g.0.0 g.0.1.0) g.1)
+    part_of (due k) s.template s.line c.result2.given.0 from_template g.0.0 g.0.1.0 (case k (Answer.Template g.0.0 g.0.1.0) g.1)
 
 returns-3 : tie.Need-returns-3
 returns-3 c =
     let k = c.before.before.before.before in
     let s = k.before.before.before.before.args in
     let g = c.before.before.start2.given in
-    part_of (due k) s.template s.line c.result3.given.0 fromLine g.0.0 g.0.1.0 (case k (Answer.Line g.0.0 g.0.1.0) g.1)
+    part_of (due k) s.template s.line c.result3.given.0 from_line g.0.0 g.0.1.0 (case k (Answer.Line g.0.0 g.0.1.0) g.1)
 
 pub part_spec : {M : Type 1} → statement M
 part_spec =
