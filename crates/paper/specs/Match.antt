@@ -1,9 +1,9 @@
 -- Whole match and search: which rows they give, their steps, their refusals, and the span table afterwards.
-use Rattle.std.specs.Prelude.{ℕ, ◌+◌, Bool, true, false, cond, List, [], ◌∷◌, ◌++◌, leb, eqb, length, drop}
+use Rattle.std.specs.Prelude.{ℕ, Bool, true, false, cond, List, [], ◌∷◌, ◌++◌, leb, eqb, length, drop}
 use Rattle.std.proofs.Math.Option.{Option, none, some}
 use Rattle.paper.specs.Limits.{line_bytes, table_numbers, step_limit}
 use Rattle.paper.specs.Refusal.{Checked, refused, accepted, ◌>>=◌, ◌>>◌, holds, line_too_long, table_too_short, too_many_steps}
-use Rattle.paper.specs.Pattern.{Mode, greedy, lazy, Upper, no_end, Range, Pattern, Members}
+use Rattle.paper.specs.Pattern.{greedy, lazy, no_end, Pattern}
 use Rattle.paper.specs.Pattern.Pattern.{bytes, group, sequence, repeat}
 use Rattle.paper.specs.Pattern.Members.{two, more}
 use Rattle.paper.specs.Check.{pattern_of}

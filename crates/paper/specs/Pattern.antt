@@ -1,6 +1,6 @@
 -- A pattern as a tree, and the numbers that 01 gives it: places, depth, groups.
 -- No group is numbered in the tree. A function that needs numbers takes the number of the first group inside.
-use Rattle.std.specs.Prelude.{ℕ, suc, ◌+◌, ◌-◌, ◌*◌, max, Bool, true, false, cond, List, ltb}
+use Rattle.std.specs.Prelude.{ℕ, suc, ◌+◌, ◌-◌, ◌*◌, max, Bool, true, cond, List, ltb}
 
 -- Patterns 3: mode 0 and mode 1
 pub data Mode : Type 0 where

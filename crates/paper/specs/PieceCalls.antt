@@ -1,6 +1,6 @@
 -- Piece: which bytes a template record puts in, without copying.
-use Rattle.std.specs.Prelude.{ℕ, zero, suc, Bool, true, false, cond, ◌&&◌, List, [], ◌∷◌, leb, ltb, eqb, length, get_or}
-use Rattle.paper.specs.Limits.{line_bytes, table_numbers, absent}
+use Rattle.std.specs.Prelude.{ℕ, zero, suc, Bool, cond, ◌&&◌, List, [], ◌∷◌, leb, eqb, length}
+use Rattle.paper.specs.Limits.{absent}
 use Rattle.paper.specs.Refusal.{Checked, refused, accepted, ◌>>=◌, ◌>>◌, holds, row_wrong, no_such_piece}
 use Rattle.paper.specs.Check.{part}
 use Rattle.paper.specs.Rows.{Rows, row_start, row_end}

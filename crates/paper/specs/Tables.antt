@@ -1,6 +1,5 @@
 -- How a pattern's places stand in a lent table: four numbers a place. 01 has no such thing: of the promises for C only those of a lent machine cite this file.
-use Rattle.std.specs.Prelude.{ℕ, zero, suc, ◌+◌, ◌*◌, Bool, true, false, cond, List, [], ◌∷◌, ◌++◌, eqb, get_or}
-use Rattle.paper.specs.Pattern.{Range}
+use Rattle.std.specs.Prelude.{ℕ, zero, suc, ◌+◌, ◌*◌, cond, List, [], ◌∷◌, ◌++◌, eqb, get_or}
 use Rattle.paper.specs.Check.{part, ranges_of}
 use Rattle.paper.specs.Machine.{Place, one_of, stop, fork, opening, closing, begin, begin_optional, ending, accept}
 

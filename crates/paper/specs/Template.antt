@@ -1,5 +1,5 @@
 -- A template: its records, and refusals 9 and 10.
-use Rattle.std.specs.Prelude.{ℕ, zero, suc, Bool, true, false, cond, ◌&&◌, List, [], ◌∷◌, leb, ltb, eqb, length}
+use Rattle.std.specs.Prelude.{ℕ, zero, suc, cond, ◌&&◌, List, [], ◌∷◌, leb, ltb, eqb, length}
 use Rattle.paper.specs.Limits.{template_bytes, pattern_groups}
 use Rattle.paper.specs.Refusal.{Checked, refused, accepted, ◌>>=◌, ◌>>◌, holds, template_wrong, reference_too_high}
 use Rattle.paper.specs.Check.{number_at, body_length, kind_at, body_start, body_end}

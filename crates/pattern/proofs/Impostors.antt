@@ -1,6 +1,6 @@
 -- What the promise of checking shuts out: one that refuses everything, and one that accepts everything. The definitions' answer is computed in both.
 use Prim.Native.Nat.{ℕ}
-use mathlib.Core.Path.{◌≡◌, sym, ap}
+use mathlib.Core.Path.{sym, ap}
 use mathlib.Core.Bool.{Bool, true, false, true≢false}
 use mathlib.Core.List.{List, [], ◌∷◌}
 use Rattle.paper.specs.Refusal.{Checked, refused, accepted}

@@ -1,18 +1,15 @@
 -- The loop over a holder's records: what is left from here, joined with what was counted so far, is what the whole holder gives.
 use Prim.Native.Nat.{ℕ, zero, suc, ◌+◌, ◌≤◌, ◌<◌, max}
-use mathlib.Core.Path.{◌≡◌, refl, ap, sym, ◌∙◌}
-use mathlib.Core.Bool.{Bool, true, false, cond}
-use mathlib.Core.List.{List, [], ◌∷◌}
+use mathlib.Core.Path.{◌≡◌, refl, sym, ◌∙◌}
+use mathlib.Core.List.{List, ◌∷◌}
 use native.Mathlib.Omega.{arith}
-use lib.Dec.{ltb}
 use lib.ListN.{length}
 use borrow.Author.Tests.{lt-ltb, le-ltb}
-use Rattle.paper.specs.Limits.{pattern_bytes, pattern_groups, pattern_places}
+use Rattle.paper.specs.Limits.{pattern_groups, pattern_places}
 use Rattle.paper.specs.Refusal.{Checked, refused, accepted, ◌>>=◌}
 use Rattle.paper.specs.Pattern.{Pattern, places, depth, groups}
 use Rattle.paper.specs.Check.{Walk, body_length, body_start, body_end, walk_all}
 use Rattle.pattern.specs.Walk.{capped, places_in, depth_in, groups_in, told, told_all, members_of}
-use Rattle.pattern.specs.declared.walk.Walked.{Walked}
 use Rattle.pattern.specs.declared.walk.Walked.TheVariants.{Refused, Record}
 use Rattle.pattern.specs.declared.walk.Several.{Several}
 use Rattle.pattern.specs.declared.walk.Several.TheVariants.{Fault, Members}

@@ -6,7 +6,7 @@ use mathlib.Core.List.{List, [], ◌∷◌, ◌++◌, map}
 use mathlib.Core.Option.{Option, none, some}
 use lib.ListN.{length, replicate}
 use Rattle.paper.specs.Refusal.{Checked, refused, accepted, ◌>>=◌}
-use Rattle.paper.specs.Check.{Numbers, pattern_of, check}
+use Rattle.paper.specs.Check.{pattern_of, check}
 use Rattle.paper.specs.Machine.{machine, rows_of}
 use Rattle.paper.specs.Match.{Found, with_row0, match_call, table_after}
 use Rattle.paper.specs.Replace.{Replaced, replace_call, replace_answer, buffer_after}

@@ -13,7 +13,7 @@ use Rattle.paper.specs.Pattern.{Mode, Upper, Range, Pattern, Members, groups, gr
 use Rattle.paper.specs.Pattern.Pattern.{nothing, empty, bytes, group, sequence, alternation, repeat}
 use Rattle.paper.specs.Pattern.Members.{two, more}
 use Rattle.paper.specs.Layout.{two_bytes, kind_number, upper_number, mode_number, repeat_bytes, range_bytes, record_of, records_of, CountsRight, WellMade, AllWellMade}
-use Rattle.paper.specs.Check.{number_at, body_length, body_start, body_end, part, bare, ranges_of, set_right, repeat_numbers_right, upper_of, mode_of, repeat_head, single, walk_all, at_least_two, body, walk_record}
+use Rattle.paper.specs.Check.{number_at, body_length, body_start, body_end, bare, ranges_of, set_right, repeat_numbers_right, upper_of, mode_of, repeat_head, single, walk_all, at_least_two, body, walk_record}
 use Rattle.paper.proofs.layout.Accepted.{holds_passes}
 use Rattle.paper.proofs.layout.Standing.{two_byte_end, Stands, Standing, stands_first, stands_second, number_standing, part_standing}
 use Rattle.paper.proofs.layout.SetBody.{ranges_of_bytes, right_set}
