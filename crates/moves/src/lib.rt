@@ -27,7 +27,7 @@ const RANGE: usize = PlaceKind::RANGE as usize;
 const ACCEPT: usize = PlaceKind::ACCEPT as usize;
 
 // What stands at a position of the line: whether a byte does, and which.
-#[derive(Drop)]
+#[derive(Clone, Copy)]
 pub struct Ahead {
     pub there: bool,
     pub byte: u8,
