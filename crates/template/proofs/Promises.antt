@@ -68,7 +68,7 @@ pub one_piece : (template line table : List ℕ) (number : ℕ) (a b : Answer)
     → answer_of a ≡ piece_call template line table number → answer_of b ≡ piece_call template line table number → a ≡ b
 one_piece template line table number a b first second = answers_differ a b (first ∙ sym second)
 
--- the second call's promise allows one answer: the same place and the same bytes, which are all of a reference but its ghost name
+-- the second call's promise allows one answer: the same place and the same bytes, which are all of a reference
 pub one_part : (answer : Checked Span) (template line a b : Bor (List ℕ))
     → IsPart answer template line a → IsPart answer template line b → (a.ref_ptr ≡ b.ref_ptr) × (a.now ≡ b.now)
 one_part answer template line a b first second = (first.stands ∙ sym second.stands, first.bytes ∙ sym second.bytes)
