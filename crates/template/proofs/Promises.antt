@@ -6,8 +6,8 @@ use mathlib.Core.Path.{◌≡◌, refl, sym, ◌∙◌, ap, ap₂, subst}
 use mathlib.Core.List.{List}
 use denote.Ref.{Bor}
 use borrow.Rule.Slice.Shared.{by_byte}
-use borrow.Rule.Slice.Prefix.{sl_ptr_p}
-use borrow.Rule.Slice.PartAt.{sl_part}
+use borrow.Rule.Slice.Prefix.{sl_ptr_pˢ}
+use borrow.Rule.Slice.PartAt.{sl_partˢ}
 use Rattle.paper.specs.Refusal.{Checked, refused, accepted}
 use Rattle.paper.specs.PieceCalls.{Source, from_template, from_line, Span, piece_call}
 use Rattle.template.specs.declared.Answer.{Answer}
@@ -16,23 +16,23 @@ use Rattle.template.specs.Answer.{answer_of, source_slice, IsPart}
 -- ---- the second call's answers
 
 -- a part of a slice, as the code makes it
-abbrev pub cut_out : Bor (List ℕ) → ℕ → ℕ → ℕ → Bor (List ℕ)
-cut_out slice start end name = sl_part slice (by_byte start slice.ref_ptr.1) start end name
+abbrev pub cut_out : Bor (List ℕ) → ℕ → ℕ → Bor (List ℕ)
+cut_out slice start end = sl_partˢ slice (by_byte start slice.ref_ptr.1) start end
 
-module _ (answer : Checked Span) (template line : Bor (List ℕ)) (name : ℕ) where
+module _ (answer : Checked Span) (template line : Bor (List ℕ)) where
   -- where the call refuses, the first no bytes of the template
-  pub part_refused : (number place : ℕ) → answer ≡ refused number place → IsPart answer template line (sl_ptr_p template 0 name)
+  pub part_refused : (number place : ℕ) → answer ≡ refused number place → IsPart answer template line (sl_ptr_pˢ template 0)
   part_refused number place is =
-      subst (λ (a : Checked Span). IsPart a template line (sl_ptr_p template 0 name)) (sym is) (record { bytes = refl; stands = refl })
+      subst (λ (a : Checked Span). IsPart a template line (sl_ptr_pˢ template 0)) (sym is) (record { bytes = refl; stands = refl })
 
   -- else a part of the slice that the source names
   pub part_of : (source : Source) (start end : ℕ) → answer ≡ accepted (record { source = source; start = start; end = end })
-      → IsPart answer template line (cut_out (source_slice source template line) start end name)
+      → IsPart answer template line (cut_out (source_slice source template line) start end)
   part_of source start end is =
-      subst (λ (a : Checked Span). IsPart a template line (cut_out (source_slice source template line) start end name)) (sym is) (by_source source)
+      subst (λ (a : Checked Span). IsPart a template line (cut_out (source_slice source template line) start end)) (sym is) (by_source source)
     where
       by_source : (s : Source)
-          → IsPart (accepted (record { source = s; start = start; end = end })) template line (cut_out (source_slice s template line) start end name)
+          → IsPart (accepted (record { source = s; start = start; end = end })) template line (cut_out (source_slice s template line) start end)
       by_source from_template = record { bytes = refl; stands = ap (λ (n : ℕ). (template.ref_ptr.0, n)) (add_comm start template.ref_ptr.1) }
       by_source from_line = record { bytes = refl; stands = ap (λ (n : ℕ). (line.ref_ptr.0, n)) (add_comm start line.ref_ptr.1) }
 
@@ -68,7 +68,7 @@ pub one_piece : (template line table : List ℕ) (number : ℕ) (a b : Answer)
     → answer_of a ≡ piece_call template line table number → answer_of b ≡ piece_call template line table number → a ≡ b
 one_piece template line table number a b first second = answers_differ a b (first ∙ sym second)
 
--- the second call's promise allows one answer: the same place and the same bytes, which are all of a reference but its ghost name
+-- the second call's promise allows one answer: the same place and the same bytes, which are all of a reference
 pub one_part : (answer : Checked Span) (template line a b : Bor (List ℕ))
     → IsPart answer template line a → IsPart answer template line b → (a.ref_ptr ≡ b.ref_ptr) × (a.now ≡ b.now)
 one_part answer template line a b first second = (first.stands ∙ sym second.stands, first.bytes ∙ sym second.bytes)

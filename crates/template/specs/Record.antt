@@ -5,7 +5,6 @@ use Rattle.paper.specs.Refusal.{Checked, refused, accepted, ◌>>=◌, template_
 use Rattle.paper.specs.Check.{body_end}
 use Rattle.paper.specs.Template.{Piece, literal, reference, piece_at, template_of, within}
 use Rattle.template.specs.declared.Record.{Record}
-use Rattle.template.specs.declared.Record.TheVariants as record-variants
 use Rattle.template.specs.declared.Counted.{Counted}
 use Rattle.template.specs.declared.References.{References}
 
