@@ -7,7 +7,7 @@ use crate::put;
 use pattern::PlaceKind;
 
 // Places to be copied: where they stand, how many they are, where the copy stands and what follows it.
-#[derive(Drop)]
+#[derive(Clone, Copy)]
 pub struct Shift {
     pub from: usize,
     pub count: usize,

@@ -10,7 +10,7 @@ use pattern::PlaceKind;
 
 // How the passes of a repeat are made: where the inner part that they copy stands, its places, its first group and how many groups each pass clears,
 // whether there is no upper end, and the mode.
-#[derive(Drop)]
+#[derive(Clone, Copy)]
 pub struct Pass {
     pub model: usize,
     pub places: usize,
