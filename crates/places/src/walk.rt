@@ -13,7 +13,7 @@ use pattern::{Kind, Pattern, PlaceKind, counts};
 use records::number_at;
 
 // Records that are laid: where they stand and end, the number of their first group, and how many places and groups they have.
-#[derive(Drop)]
+#[derive(Clone, Copy)]
 pub struct Part {
     pub at: usize,
     pub stop: usize,
