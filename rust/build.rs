@@ -4,7 +4,7 @@ use std::env;
 use std::path::{Path, PathBuf};
 use std::process::{exit, Command};
 
-/// A directory with the archive, where it is not the one that `rt staticlib` writes to.
+/// A directory with the archive, where it is not the one that `rt lib` writes to.
 const ELSEWHERE: &str = "TOJALINDA_ARCHIVE";
 
 fn main() {
@@ -22,13 +22,13 @@ fn link_archive(here: &Path) {
     let folder = match elsewhere {
         Some(folder) if folder.is_relative() => where_called().join(folder),
         Some(folder) => folder,
-        None => here.join("../target/staticlib"),
+        None => here.join("../crates/exports/out"),
     };
     let archive = folder.join("libexports.a");
     println!("cargo:rerun-if-changed={}", archive.display());
     if !archive.is_file() {
         fail(&format!(
-            "{} is missing: build it with `rt staticlib exports` in the repository's root, \
+            "{} is missing: build it with `rt lib` in crates/exports, \
              or name a directory that has it in {ELSEWHERE}",
             archive.display()
         ));

@@ -14,8 +14,8 @@ absolute() {
 
 root=$(CDPATH='' cd -- "$(dirname -- "$0")/.." && pwd)
 if [ -z "${TOJALINDA_ARCHIVE:-}" ]; then
-    (cd "$root" && rt staticlib exports)
-    TOJALINDA_ARCHIVE=$root/target/staticlib
+    (cd "$root/crates/exports" && rt lib)
+    TOJALINDA_ARCHIVE=$root/crates/exports/out
 fi
 TOJALINDA_ARCHIVE=$(absolute "$TOJALINDA_ARCHIVE")
 CARGO_TARGET_DIR=$(absolute "${CARGO_TARGET_DIR:-$root/rust/target}")

@@ -13,11 +13,11 @@ fail() { # STATUS WHY
 
 # Sees that a program is there: if it is not, it is proved and built.
 have() { # PROGRAM
-    [ ! -x "$root/target/bin/$1" ] || return 0
+    [ ! -x "$root/crates/$1/out/$1" ] || return 0
     command -v rt >/dev/null || fail 2 "rt, which proves and builds $1, is not found"
     echo "$name: $1 is proved and built first, which takes some minutes" >&2
-    (cd "$root" && rt check "$1") >/dev/null 2>&1
-    [ -x "$root/target/bin/$1" ] || fail 2 "rt check $1 fails"
+    (cd "$root/crates/$1" && rt run) </dev/null >/dev/null 2>&1
+    [ -x "$root/crates/$1/out/$1" ] || fail 2 "rt run in crates/$1 fails"
 }
 
 # Runs a program on standard input and ends with its status. What it prints goes on as it comes, to tee's own output (4) and through the
@@ -28,7 +28,7 @@ run() { # PROGRAM
     exec 4>&1
     said=$(
         exec 5>&1
-        { "$root/target/bin/$1" 2>&5 4>&- 5>&- || echo "$1: ended with $?" >&5; } |
+        { "$root/crates/$1/out/$1" 2>&5 4>&- 5>&- || echo "$1: ended with $?" >&5; } |
             { tee /dev/fd/3 >&4 2>/dev/null || printf '\nunwritten\n' >&3; } 3>&1 |
             awk 'NR == 1 { first = $0 }
                 { last = $0 }

@@ -26,11 +26,11 @@ expect() { # STATUS LINES LAST COMMAND..
 
 # A copy of the repository whose programs are the text given here.
 program() { # NAME TEXT
-    mkdir -p 'a copy/target/bin'
-    printf '#!/bin/sh\n%s\n' "$2" >"a copy/target/bin/$1"
-    chmod +x "a copy/target/bin/$1"
+    mkdir -p "a copy/crates/$1/out"
+    printf '#!/bin/sh\n%s\n' "$2" >"a copy/crates/$1/out/$1"
+    chmod +x "a copy/crates/$1/out/$1"
 }
-mkdir 'a copy'
+mkdir -p 'a copy/crates/pick'
 cp -R "$repository/scripts" 'a copy/'
 pick='a copy/scripts/pick.sh' known='a copy/scripts/known.sh' make="$repository/scripts/make_job.py"
 echo 0000 0100 >'-a pattern.hex'
@@ -69,7 +69,7 @@ expect 2 1 '' env PATH="$room/tools" /bin/sh "$pick" -job
 printf '#!/bin/sh\nexit 1\n' >tools/rt
 chmod +x tools/rt
 expect 2 2 '' env PATH="$room/tools:$PATH" sh "$pick" -job
-echo 'mkdir -p target/bin; echo "echo 1 none 1" >target/bin/pick; chmod +x target/bin/pick' >tools/rt
+echo 'mkdir -p out; echo "echo 1 none 1" >out/pick; chmod +x out/pick' >tools/rt
 expect 0 1 '1 none 1' env PATH="$room/tools:$PATH" sh "$pick" -job
 program pick 'cat >/dev/null; echo "places 1 depth 0 groups 0"; echo "1 none 1"'
 expect 0 0 '1 none 1' sh "$pick" -job
@@ -111,7 +111,7 @@ if command -v node >/dev/null; then
     echo 'match 0200 61 -> whole 2 0-1' >nonsense
     expect 0 0 '' node "$compare" --answered cases
     expect 1 0 '' node "$compare" --answered wrong
-    expect 1 1 '' node "$compare" 'a copy/target/bin/replay' 10 1
+    expect 1 1 '' node "$compare" 'a copy/crates/replay/out/replay' 10 1
     for file in nonsense none . /dev/null; do expect 2 1 '' node "$compare" --answered "$file"; done
     for file in none . /bin/true; do expect 2 1 '' node "$compare" "$file" 10 1; done
     for words in '' '--answered' '--write /bin/cat' '--other' '/bin/cat x' '/bin/cat 1 x' '/bin/cat -1' '/bin/cat 1 1 1'; do
@@ -127,7 +127,7 @@ fi
 pick=$repository/scripts/pick.sh known=$repository/scripts/known.sh examples=$repository/examples
 to=job expect 0 0 '' python3 "$make" "$examples/grown.hex" "$examples/log.txt"
 cmp job "$examples/grown.job" || failures=$((failures + 1))
-if [ -x "$repository/target/bin/pick" ]; then
+if [ -x "$repository/crates/pick/out/pick" ]; then
     expect 0 0 '4 none 182' sh "$pick" job
     to=/dev/full expect 2 1 '' sh "$pick" job
     expect 1 1 'job broken' sh "$pick" "$examples/log.txt"
@@ -135,7 +135,7 @@ if [ -x "$repository/target/bin/pick" ]; then
     printf '\4\0\100\0\0\0\11\0' >refused
     expect 1 1 'refused 3 0' sh "$pick" refused
 fi
-if [ -x "$repository/target/bin/known" ]; then
+if [ -x "$repository/crates/known/out/known" ]; then
     expect 0 0 '' sh "$known"
     expect 0 0 '' sh "$known" "$examples/grown.hex"
     expect 1 1 'refused 1 0' sh "$known" long.hex

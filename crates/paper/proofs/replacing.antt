@@ -2,4 +2,5 @@
 pub mod ScanTurns
 pub mod ScanWays
 pub mod ScanLengths
+pub mod Triangle
 pub mod ReplaceBound

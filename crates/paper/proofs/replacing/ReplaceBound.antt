@@ -22,11 +22,7 @@ use Rattle.paper.proofs.machine.Sizes.{depth_levels}
 use Rattle.paper.proofs.machine.Bound.{search_bound_law}
 use Rattle.paper.proofs.reading.AnswerRows.{Answered}
 use Rattle.paper.proofs.replacing.ScanTurns.{Ahead, match_ahead}
-
--- the sum 1 + 2 + … + (n + 1)
-abbrev pub triangle : ℕ → ℕ
-triangle zero = 1
-triangle (suc n) = triangle n + (n + 2)
+use Rattle.paper.proofs.replacing.Triangle.{triangle}
 
 triangle_mono : (a b : ℕ) → a ≤ b → triangle a ≤ triangle b
 triangle_mono zero zero h = omega arith

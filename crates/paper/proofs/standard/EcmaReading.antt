@@ -201,7 +201,7 @@ left_as_counted least no_end line mode pass = refl
 
 module _ (out : Matcher) (spare : ℕ) (line : List ℕ) where
   mutual
-    -- for every well_made pattern, ECMA-262's matcher takes the outcomes of the ordered reading in their order: from every position, with
+    -- for every well-made pattern, ECMA-262's matcher takes the outcomes of the ordered reading in their order: from every position, with
     -- every rows and for every continuation. What it would answer out of turns, and how many turns are to spare, makes no difference
     pub compile_takes : (e : Pattern) (first : ℕ) → WellMade e → Takes (compile e out spare line first) (read e line first)
     compile_takes nothing first w = λ x c. no_character (leb (suc x.end) (length line))

@@ -148,7 +148,7 @@ module _ (e : Pattern) (line : List ℕ) (bytes : Bytes line) where
         first_found (length line) q (read e line 1 q no_rows) rest ∙
         ap₂ (found_at q) (sym (compile_takes out spare line e 1 w (record { end = q; rows = no_rows }) (λ y. some y))) (each_as_exec k (suc q) (omega arith))
 
-    -- for a well_made pattern and a line of bytes, the search that wraps the pattern is ECMA-262's search
+    -- for a well-made pattern and a line of bytes, the search that wraps the pattern is ECMA-262's search
     pub search_as_ecma : search e line ≡ exec (suc (length line)) e out spare line 0
     search_as_ecma =
         let n = length line in
