@@ -19,7 +19,7 @@ pub const NONE: usize = writing::ABSENT;
 
 // Up to where the line is copied first, whether the template is put in and for which rows, up to where the line is copied then, whether the
 // scan goes on and from where, where the last non-empty match ended, and the search's steps.
-#[derive(Drop)]
+#[derive(Clone, Copy)]
 pub struct Turn {
     pub start: usize,
     pub put: bool,
