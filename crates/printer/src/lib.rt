@@ -66,6 +66,7 @@ fn complain(errors: Stderr, program: &[u8], words: &[u8]) {
 }
 
 // Writes out what is gathered, which leaves nothing.
+#[tactic(auto, unfolding(crate::specs::Gathered::failures))]
 fn flush(to: Stdout, out: &[u8], at: usize) -> usize
     ensures { Gathered at result }
 {
@@ -105,6 +106,7 @@ pub fn unreadable(
 }
 
 // One byte more, as it is.
+#[tactic(auto, unfolding(crate::specs::Gathered::failures))]
 fn plain(to: Stdout, out: &mut [u8], at: usize, b: u8) -> usize
     ensures { Gathered at result }
 {
