@@ -7,6 +7,7 @@ ghost use Rattle.job.specs.Comes.{comes, pattern_record, line_record, body_bytes
 
 use pattern::Spans;
 use records::Header;
+use std::io::Stdout;
 
 // The kinds of a job's records, and the greatest length of a body.
 #[derive(Drop)]
@@ -65,6 +66,7 @@ pub fn next_record(bytes: &[u8], at: usize, stop: usize, kind: usize) -> Next
 
 // The pattern's numbers.
 pub fn print_numbers(
+    to: Stdout,
     out: &mut [u8],
     at: usize,
     places: usize,
@@ -74,32 +76,40 @@ pub fn print_numbers(
 ) -> usize
     ensures { Gathered at result }
 {
-    let mut n = printer::bytes(out, at, b"places ", coded);
-    n = printer::decimal(out, n, places as u64, coded);
-    n = printer::bytes(out, n, b" depth ", coded);
-    n = printer::decimal(out, n, depth as u64, coded);
-    n = printer::bytes(out, n, b" groups ", coded);
-    n = printer::decimal(out, n, groups as u64, coded);
-    printer::bytes(out, n, b"\n", coded)
+    let mut n = printer::bytes(to, out, at, b"places ", coded);
+    n = printer::decimal(to, out, n, places as u64, coded);
+    n = printer::bytes(to, out, n, b" depth ", coded);
+    n = printer::decimal(to, out, n, depth as u64, coded);
+    n = printer::bytes(to, out, n, b" groups ", coded);
+    n = printer::decimal(to, out, n, groups as u64, coded);
+    printer::bytes(to, out, n, b"\n", coded)
 }
 
 // The refusal of the pattern.
-pub fn print_refused(out: &mut [u8], at: usize, number: usize, place: usize, coded: bool) -> usize
+pub fn print_refused(
+    to: Stdout,
+    out: &mut [u8],
+    at: usize,
+    number: usize,
+    place: usize,
+    coded: bool,
+) -> usize
     ensures { Gathered at result }
 {
-    let n = printer::refusal(out, at, number, place, coded);
-    printer::bytes(out, n, b"\n", coded)
+    let n = printer::refusal(to, out, at, number, place, coded);
+    printer::bytes(to, out, n, b"\n", coded)
 }
 
 // What is printed where the job is not as described.
-pub fn print_broken(out: &mut [u8], at: usize, coded: bool) -> usize
+pub fn print_broken(to: Stdout, out: &mut [u8], at: usize, coded: bool) -> usize
     ensures { Gathered at result }
 {
-    printer::bytes(out, at, b"job broken\n", coded)
+    printer::bytes(to, out, at, b"job broken\n", coded)
 }
 
 // A line's number and what its match found.
 pub fn print_line(
+    to: Stdout,
     out: &mut [u8],
     at: usize,
     number: u64,
@@ -111,8 +121,8 @@ pub fn print_line(
 ) -> usize
     ensures { Gathered at result }
 {
-    let mut n = printer::decimal(out, at, number, coded);
-    n = printer::bytes(out, n, b" ", coded);
-    n = printer::outcome(out, n, matched, steps, rows, groups, coded);
-    printer::bytes(out, n, b"\n", coded)
+    let mut n = printer::decimal(to, out, at, number, coded);
+    n = printer::bytes(to, out, n, b" ", coded);
+    n = printer::outcome(to, out, n, matched, steps, rows, groups, coded);
+    printer::bytes(to, out, n, b"\n", coded)
 }

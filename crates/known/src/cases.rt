@@ -1,24 +1,26 @@
 // The fifteen known answers of 01, one function each: the pattern in ordinary notation, its records, the line, and the call that answers.
 use crate::show;
+use std::io::Stdout;
 
-fn case_1(out: &mut [u8], at: usize) -> usize {
-    show::matched(out, at, b"1. empty on \"\"", b"\0\0\x01\0", b"")
+fn case_1(to: Stdout, out: &mut [u8], at: usize) -> usize {
+    show::matched(to, out, at, b"1. empty on \"\"", b"\0\0\x01\0", b"")
 }
 
-fn case_2(out: &mut [u8], at: usize) -> usize {
-    show::matched(out, at, b"2. empty on \"a\"", b"\0\0\x01\0", b"a")
+fn case_2(to: Stdout, out: &mut [u8], at: usize) -> usize {
+    show::matched(to, out, at, b"2. empty on \"a\"", b"\0\0\x01\0", b"a")
 }
 
-fn case_3(out: &mut [u8], at: usize) -> usize {
-    show::matched(out, at, b"3. nothing on \"\"", b"\0\0\0\0", b"")
+fn case_3(to: Stdout, out: &mut [u8], at: usize) -> usize {
+    show::matched(to, out, at, b"3. nothing on \"\"", b"\0\0\0\0", b"")
 }
 
-fn case_4(out: &mut [u8], at: usize) -> usize {
-    show::matched(out, at, b"4. a on \"a\"", b"\x02\0\x02\0aa", b"a")
+fn case_4(to: Stdout, out: &mut [u8], at: usize) -> usize {
+    show::matched(to, out, at, b"4. a on \"a\"", b"\x02\0\x02\0aa", b"a")
 }
 
-fn case_5(out: &mut [u8], at: usize) -> usize {
+fn case_5(to: Stdout, out: &mut [u8], at: usize) -> usize {
     show::matched(
+        to,
         out,
         at,
         b"5. a* on \"\"",
@@ -27,8 +29,9 @@ fn case_5(out: &mut [u8], at: usize) -> usize {
     )
 }
 
-fn case_6(out: &mut [u8], at: usize) -> usize {
+fn case_6(to: Stdout, out: &mut [u8], at: usize) -> usize {
     show::matched(
+        to,
         out,
         at,
         b"6. a* on \"a\"",
@@ -37,8 +40,9 @@ fn case_6(out: &mut [u8], at: usize) -> usize {
     )
 }
 
-fn case_7(out: &mut [u8], at: usize) -> usize {
+fn case_7(to: Stdout, out: &mut [u8], at: usize) -> usize {
     show::matched(
+        to,
         out,
         at,
         b"7. (a*?)* on \"aaa\"",
@@ -47,8 +51,9 @@ fn case_7(out: &mut [u8], at: usize) -> usize {
     )
 }
 
-fn case_8(out: &mut [u8], at: usize) -> usize {
+fn case_8(to: Stdout, out: &mut [u8], at: usize) -> usize {
     show::matched(
+        to,
         out,
         at,
         b"8. a+|(a*) on \"aa\"",
@@ -57,8 +62,9 @@ fn case_8(out: &mut [u8], at: usize) -> usize {
     )
 }
 
-fn case_9(out: &mut [u8], at: usize) -> usize {
+fn case_9(to: Stdout, out: &mut [u8], at: usize) -> usize {
     show::matched(
+        to,
         out,
         at,
         b"9. ((a)|b)* on \"ab\"",
@@ -67,8 +73,9 @@ fn case_9(out: &mut [u8], at: usize) -> usize {
     )
 }
 
-fn case_10(out: &mut [u8], at: usize) -> usize {
+fn case_10(to: Stdout, out: &mut [u8], at: usize) -> usize {
     show::matched(
+        to,
         out,
         at,
         b"10. (a*)+ on \"\"",
@@ -77,8 +84,9 @@ fn case_10(out: &mut [u8], at: usize) -> usize {
     )
 }
 
-fn case_11(out: &mut [u8], at: usize) -> usize {
+fn case_11(to: Stdout, out: &mut [u8], at: usize) -> usize {
     show::matched(
+        to,
         out,
         at,
         b"11. (a*)* on \"\"",
@@ -87,8 +95,9 @@ fn case_11(out: &mut [u8], at: usize) -> usize {
     )
 }
 
-fn case_12(out: &mut [u8], at: usize) -> usize {
+fn case_12(to: Stdout, out: &mut [u8], at: usize) -> usize {
     show::matched(
+        to,
         out,
         at,
         b"12. (a|ab)(c|bcd)(d*) on \"abcd\"",
@@ -97,8 +106,9 @@ fn case_12(out: &mut [u8], at: usize) -> usize {
     )
 }
 
-fn case_13(out: &mut [u8], at: usize) -> usize {
+fn case_13(to: Stdout, out: &mut [u8], at: usize) -> usize {
     show::searched(
+        to,
         out,
         at,
         b"13. (a+?)(b*) searched in \"xaabb\"",
@@ -107,9 +117,10 @@ fn case_13(out: &mut [u8], at: usize) -> usize {
     )
 }
 
-fn case_14(out: &mut [u8], at: usize) -> usize {
+fn case_14(to: Stdout, out: &mut [u8], at: usize) -> usize {
     let mut buffer = [0u8; 24];
     show::replaced(
+        to,
         out,
         at,
         b"14. ([A-Za-z]+) ([A-Za-z]+) by \"$2, $1\" in \"Don Knuth; Alan Turing\"",
@@ -120,9 +131,10 @@ fn case_14(out: &mut [u8], at: usize) -> usize {
     )
 }
 
-fn case_15(out: &mut [u8], at: usize) -> usize {
+fn case_15(to: Stdout, out: &mut [u8], at: usize) -> usize {
     let mut buffer = [0u8; 5];
     show::replaced(
+        to,
         out,
         at,
         b"15. b* by \"-\" in \"abc\"",
@@ -134,31 +146,31 @@ fn case_15(out: &mut [u8], at: usize) -> usize {
 }
 
 // The cases on a pattern without a group.
-fn without_groups(out: &mut [u8], at: usize) -> usize {
-    let mut n = case_1(out, at);
-    n = case_2(out, n);
-    n = case_3(out, n);
-    n = case_4(out, n);
-    n = case_5(out, n);
-    case_6(out, n)
+fn without_groups(to: Stdout, out: &mut [u8], at: usize) -> usize {
+    let mut n = case_1(to, out, at);
+    n = case_2(to, out, n);
+    n = case_3(to, out, n);
+    n = case_4(to, out, n);
+    n = case_5(to, out, n);
+    case_6(to, out, n)
 }
 
 // The cases on what a group holds.
-fn with_groups(out: &mut [u8], at: usize) -> usize {
-    let mut n = case_7(out, at);
-    n = case_8(out, n);
-    n = case_9(out, n);
-    n = case_10(out, n);
-    n = case_11(out, n);
-    case_12(out, n)
+fn with_groups(to: Stdout, out: &mut [u8], at: usize) -> usize {
+    let mut n = case_7(to, out, at);
+    n = case_8(to, out, n);
+    n = case_9(to, out, n);
+    n = case_10(to, out, n);
+    n = case_11(to, out, n);
+    case_12(to, out, n)
 }
 
 // All of them, in order.
-pub fn all(out: &mut [u8]) -> usize {
-    let mut n = printer::bytes(out, 0, b"Known answers\n", false);
-    n = without_groups(out, n);
-    n = with_groups(out, n);
-    n = case_13(out, n);
-    n = case_14(out, n);
-    case_15(out, n)
+pub fn all(to: Stdout, out: &mut [u8]) -> usize {
+    let mut n = printer::bytes(to, out, 0, b"Known answers\n", false);
+    n = without_groups(to, out, n);
+    n = with_groups(to, out, n);
+    n = case_13(to, out, n);
+    n = case_14(to, out, n);
+    case_15(to, out, n)
 }

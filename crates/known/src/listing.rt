@@ -4,6 +4,7 @@ ghost use Rattle.printer.specs.Gathered.{Gathered};
 
 use crate::words::labelled;
 use pattern::PlaceKind;
+use std::io::Stdout;
 
 // A number of a table as an index.
 fn wide(x: u16) -> usize
@@ -13,62 +14,62 @@ fn wide(x: u16) -> usize
 }
 
 // A byte: as its character in quotes, or in digits where it has none that can be seen.
-fn letter(out: &mut [u8], at: usize, b: u8) -> usize
+fn letter(to: Stdout, out: &mut [u8], at: usize, b: u8) -> usize
     ensures { Gathered at result }
 {
     if b < b'!' {
-        return digits(out, at, b);
+        return digits(to, out, at, b);
     }
     if b'~' < b {
-        return digits(out, at, b);
+        return digits(to, out, at, b);
     }
     let quoted = [b'\'', b, b'\''];
-    printer::bytes(out, at, &quoted, false)
+    printer::bytes(to, out, at, &quoted, false)
 }
 
-fn digits(out: &mut [u8], at: usize, b: u8) -> usize
+fn digits(to: Stdout, out: &mut [u8], at: usize, b: u8) -> usize
     ensures { Gathered at result }
 {
-    let n = printer::bytes(out, at, b"0x", false);
-    printer::hex(out, n, b)
+    let n = printer::bytes(to, out, at, b"0x", false);
+    printer::hex(to, out, n, b)
 }
 
 // A range of a set: its one byte, or its first and last.
-fn range(out: &mut [u8], at: usize, low: u8, high: u8) -> usize
+fn range(to: Stdout, out: &mut [u8], at: usize, low: u8, high: u8) -> usize
     ensures { Gathered at result }
 {
-    let mut n = printer::bytes(out, at, b" ", false);
-    n = letter(out, n, low);
+    let mut n = printer::bytes(to, out, at, b" ", false);
+    n = letter(to, out, n, low);
     if low == high {
         return n;
     }
-    n = printer::bytes(out, n, b"-", false);
-    letter(out, n, high)
+    n = printer::bytes(to, out, n, b"-", false);
+    letter(to, out, n, high)
 }
 
 // The ranges of a set.
-fn ranges(out: &mut [u8], at: usize, pairs: &[u8]) -> usize
+fn ranges(to: Stdout, out: &mut [u8], at: usize, pairs: &[u8]) -> usize
     ensures { Gathered at result }
 {
-    let mut n = printer::bytes(out, at, b"set", false);
+    let mut n = printer::bytes(to, out, at, b"set", false);
     let mut i = 0;
     while i + 1 < pairs.len() {
-        n = range(out, n, pairs[i], pairs[i + 1]);
+        n = range(to, out, n, pairs[i], pairs[i + 1]);
         i += 2;
     }
     n
 }
 
 // A set, whose ranges stand in the pattern from an offset on.
-fn set(out: &mut [u8], at: usize, pattern: &[u8], offset: usize, count: usize) -> usize
+fn set(to: Stdout, out: &mut [u8], at: usize, pattern: &[u8], offset: usize, count: usize) -> usize
     requires { (offset ≤ 65535) × (count ≤ 65535) }
     ensures { Gathered at result }
 {
     let end = offset + 2 * count;
     if end <= pattern.len() {
-        ranges(out, at, &pattern[offset..end])
+        ranges(to, out, at, &pattern[offset..end])
     } else {
-        printer::bytes(out, at, b"set outside the pattern", false)
+        printer::bytes(to, out, at, b"set outside the pattern", false)
     }
 }
 
@@ -78,97 +79,115 @@ fn byte(x: u16) -> u8 {
 }
 
 // A set of one range, whose least and greatest byte are the place's numbers. A search has two places that take every byte.
-fn single(out: &mut [u8], at: usize, low: u16, high: u16) -> usize
+fn single(to: Stdout, out: &mut [u8], at: usize, low: u16, high: u16) -> usize
     ensures { Gathered at result }
 {
     if low == 0 && high == 255 {
-        return printer::bytes(out, at, b"any byte", false);
+        return printer::bytes(to, out, at, b"any byte", false);
     }
     let pair = [byte(low), byte(high)];
-    ranges(out, at, &pair)
+    ranges(to, out, at, &pair)
 }
 
 // A begin of a pass, and the groups that it makes absent.
-fn begin(out: &mut [u8], at: usize, words: &[u8], first: u16, count: u16) -> usize
+fn begin(to: Stdout, out: &mut [u8], at: usize, words: &[u8], first: u16, count: u16) -> usize
     ensures { Gathered at result }
 {
-    let mut n = printer::bytes(out, at, words, false);
+    let mut n = printer::bytes(to, out, at, words, false);
     if count == 0 {
         return n;
     }
     if count == 1 {
-        return labelled(out, n, b", clears group ", wide(first));
+        return labelled(to, out, n, b", clears group ", wide(first));
     }
-    n = labelled(out, n, b", clears groups ", wide(first));
-    labelled(out, n, b" to ", wide(first) + wide(count) - 1)
+    n = labelled(to, out, n, b", clears groups ", wide(first));
+    labelled(to, out, n, b" to ", wide(first) + wide(count) - 1)
 }
 
 // The begin of a pass, or its end.
-fn pass(out: &mut [u8], at: usize, kind: u16, first: u16, count: u16) -> usize
+fn pass(to: Stdout, out: &mut [u8], at: usize, kind: u16, first: u16, count: u16) -> usize
     ensures { Gathered at result }
 {
     if kind == PlaceKind::BEGIN {
-        return begin(out, at, b"begin", first, count);
+        return begin(to, out, at, b"begin", first, count);
     }
     if kind == PlaceKind::BEGIN_OPTIONAL {
-        return begin(out, at, b"begin optional", first, count);
+        return begin(to, out, at, b"begin optional", first, count);
     }
-    printer::bytes(out, at, b"end", false)
+    printer::bytes(to, out, at, b"end", false)
 }
 
 // The start of a group, or its end.
-fn group(out: &mut [u8], at: usize, kind: u16, number: u16) -> usize
+fn group(to: Stdout, out: &mut [u8], at: usize, kind: u16, number: u16) -> usize
     ensures { Gathered at result }
 {
     if kind == PlaceKind::OPEN {
-        return labelled(out, at, b"open ", wide(number));
+        return labelled(to, out, at, b"open ", wide(number));
     }
-    labelled(out, at, b"close ", wide(number))
+    labelled(to, out, at, b"close ", wide(number))
 }
 
 // What a place does that has one follower.
-fn action(out: &mut [u8], at: usize, pattern: &[u8], kind: u16, a: u16, many: u16) -> usize
+fn action(
+    to: Stdout,
+    out: &mut [u8],
+    at: usize,
+    pattern: &[u8],
+    kind: u16,
+    a: u16,
+    many: u16,
+) -> usize
     ensures { Gathered at result }
 {
     if kind < PlaceKind::BEGIN {
-        return group(out, at, kind, a);
+        return group(to, out, at, kind, a);
     }
     if kind < PlaceKind::SET {
-        return pass(out, at, kind, a, many);
+        return pass(to, out, at, kind, a, many);
     }
     if kind == PlaceKind::SET {
-        return set(out, at, pattern, wide(a), wide(many));
+        return set(to, out, at, pattern, wide(a), wide(many));
     }
-    single(out, at, a, many)
+    single(to, out, at, a, many)
 }
 
 // A fork: the branch that it prefers, and the other.
-fn fork(out: &mut [u8], at: usize, preferred: u16, other: u16) -> usize
+fn fork(to: Stdout, out: &mut [u8], at: usize, preferred: u16, other: u16) -> usize
     ensures { Gathered at result }
 {
-    let n = labelled(out, at, b"fork, prefers ", wide(preferred));
-    labelled(out, n, b", else ", wide(other))
+    let n = labelled(to, out, at, b"fork, prefers ", wide(preferred));
+    labelled(to, out, n, b", else ", wide(other))
 }
 
 // What a place does and where it leads.
-fn deed(out: &mut [u8], at: usize, pattern: &[u8], kind: u16, next: u16, a: u16, many: u16) -> usize
+fn deed(
+    to: Stdout,
+    out: &mut [u8],
+    at: usize,
+    pattern: &[u8],
+    kind: u16,
+    next: u16,
+    a: u16,
+    many: u16,
+) -> usize
     ensures { Gathered at result }
 {
     if kind == PlaceKind::FORK {
-        return fork(out, at, next, a);
+        return fork(to, out, at, next, a);
     }
     if kind == PlaceKind::STOP {
-        return printer::bytes(out, at, b"stop", false);
+        return printer::bytes(to, out, at, b"stop", false);
     }
     if kind == PlaceKind::ACCEPT {
-        return printer::bytes(out, at, b"accept", false);
+        return printer::bytes(to, out, at, b"accept", false);
     }
-    let n = action(out, at, pattern, kind, a, many);
-    labelled(out, n, b", then ", wide(next))
+    let n = action(to, out, at, pattern, kind, a, many);
+    labelled(to, out, n, b", then ", wide(next))
 }
 
 // A line of the listing.
 fn place(
+    to: Stdout,
     out: &mut [u8],
     at: usize,
     pattern: &[u8],
@@ -180,20 +199,21 @@ fn place(
 ) -> usize
     ensures { Gathered at result }
 {
-    let mut n = labelled(out, at, b"    ", number);
-    n = printer::bytes(out, n, b" ", false);
-    n = deed(out, n, pattern, kind, next, a, many);
-    printer::bytes(out, n, b"\n", false)
+    let mut n = labelled(to, out, at, b"    ", number);
+    n = printer::bytes(to, out, n, b" ", false);
+    n = deed(to, out, n, pattern, kind, next, a, many);
+    printer::bytes(to, out, n, b"\n", false)
 }
 
 // The places whose numbers stand in a table, in order.
-pub fn places(out: &mut [u8], at: usize, pattern: &[u8], code: &[u16]) -> usize
+pub fn places(to: Stdout, out: &mut [u8], at: usize, pattern: &[u8], code: &[u16]) -> usize
     ensures { Gathered at result }
 {
     let mut n = at;
     let mut b = 0;
     while b + 3 < code.len() {
         n = place(
+            to,
             out,
             n,
             pattern,

@@ -4,6 +4,7 @@ ghost use Rattle.printer.specs.Gathered.{Gathered};
 use crate::{answers, listing, words};
 use machine::{Built, Machine};
 use pattern::PlaceKind;
+use std::io::Stdout;
 
 // How much is printed, and the groups of the pattern.
 #[derive(Drop)]
@@ -13,22 +14,29 @@ pub struct Shown {
 }
 
 // The first places of a table: as many as were built, for which it has room.
-fn listed(out: &mut [u8], at: usize, pattern: &[u8], code: &[u16], places: usize) -> usize
+fn listed(
+    to: Stdout,
+    out: &mut [u8],
+    at: usize,
+    pattern: &[u8],
+    code: &[u16],
+    places: usize,
+) -> usize
     ensures { Gathered at result }
 {
     if places <= code.len() / PlaceKind::NUMBERS {
-        listing::places(out, at, pattern, &code[0..PlaceKind::NUMBERS * places])
+        listing::places(to, out, at, pattern, &code[0..PlaceKind::NUMBERS * places])
     } else {
         at
     }
 }
 
 // A pattern's numbers and places, as they are built for a whole match or for a search, or its refusal.
-pub fn built(out: &mut [u8], at: usize, pattern: &[u8], searches: bool) -> Shown {
+pub fn built(to: Stdout, out: &mut [u8], at: usize, pattern: &[u8], searches: bool) -> Shown {
     let mut code = [0u16; Machine::CODE];
     match machine::build(pattern, searches, &mut code) {
         Built::Refused { number, place } => Shown {
-            printed: job::print_refused(out, at, number, place, false),
+            printed: job::print_refused(to, out, at, number, place, false),
             groups: 0,
         },
         Built::Machine {
@@ -36,9 +44,9 @@ pub fn built(out: &mut [u8], at: usize, pattern: &[u8], searches: bool) -> Shown
             depth,
             groups,
         } => {
-            let n = job::print_numbers(out, at, places, depth, groups, false);
+            let n = job::print_numbers(to, out, at, places, depth, groups, false);
             Shown {
-                printed: listed(out, n, pattern, &code, places),
+                printed: listed(to, out, n, pattern, &code, places),
                 groups,
             }
         }
@@ -46,28 +54,50 @@ pub fn built(out: &mut [u8], at: usize, pattern: &[u8], searches: bool) -> Shown
 }
 
 // The case's title, its records and its places.
-fn opened(out: &mut [u8], at: usize, title: &[u8], pattern: &[u8], searches: bool) -> Shown {
-    let mut n = words::heading(out, at, title);
-    n = printer::bytes(out, n, b"records ", false);
-    n = printer::byte_string(out, n, pattern);
-    n = words::end_line(out, n);
-    built(out, n, pattern, searches)
+fn opened(
+    to: Stdout,
+    out: &mut [u8],
+    at: usize,
+    title: &[u8],
+    pattern: &[u8],
+    searches: bool,
+) -> Shown {
+    let mut n = words::heading(to, out, at, title);
+    n = printer::bytes(to, out, n, b"records ", false);
+    n = printer::byte_string(to, out, n, pattern);
+    n = words::end_line(to, out, n);
+    built(to, out, n, pattern, searches)
 }
 
 // A whole match.
-pub fn matched(out: &mut [u8], at: usize, title: &[u8], pattern: &[u8], line: &[u8]) -> usize {
-    let shown = opened(out, at, title, pattern, false);
-    answers::matched(out, shown.printed, pattern, line, shown.groups)
+pub fn matched(
+    to: Stdout,
+    out: &mut [u8],
+    at: usize,
+    title: &[u8],
+    pattern: &[u8],
+    line: &[u8],
+) -> usize {
+    let shown = opened(to, out, at, title, pattern, false);
+    answers::matched(to, out, shown.printed, pattern, line, shown.groups)
 }
 
 // A search.
-pub fn searched(out: &mut [u8], at: usize, title: &[u8], pattern: &[u8], line: &[u8]) -> usize {
-    let shown = opened(out, at, title, pattern, true);
-    answers::searched(out, shown.printed, pattern, line, shown.groups)
+pub fn searched(
+    to: Stdout,
+    out: &mut [u8],
+    at: usize,
+    title: &[u8],
+    pattern: &[u8],
+    line: &[u8],
+) -> usize {
+    let shown = opened(to, out, at, title, pattern, true);
+    answers::searched(to, out, shown.printed, pattern, line, shown.groups)
 }
 
 // Replace-all, into a buffer.
 pub fn replaced(
+    to: Stdout,
     out: &mut [u8],
     at: usize,
     title: &[u8],
@@ -76,6 +106,6 @@ pub fn replaced(
     line: &[u8],
     buffer: &mut [u8],
 ) -> usize {
-    let shown = opened(out, at, title, pattern, true);
-    answers::replaced(out, shown.printed, pattern, template, line, buffer)
+    let shown = opened(to, out, at, title, pattern, true);
+    answers::replaced(to, out, shown.printed, pattern, template, line, buffer)
 }

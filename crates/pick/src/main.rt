@@ -12,6 +12,7 @@ ghost use Rattle.pick.specs.Job.{Lines, Tables};
 
 use job::{Job, Next};
 use machine::{Built, Machine};
+use std::io::{Stderr, Stdin, Stdout};
 use window::Window;
 
 // How far the job is: the window of the input, how much is gathered for printing, whether it goes on, and whether it is broken.
@@ -48,6 +49,7 @@ fn answer_line(
     taken: &mut [u16],
     lists: &mut [u16],
     pending: &mut [u16],
+    to: Stdout,
     out: &mut [u8],
     number: u64,
     at: usize,
@@ -59,6 +61,7 @@ fn answer_line(
     );
     let rows = ran.rows;
     job::print_line(
+        to,
         out,
         at,
         number,
@@ -72,6 +75,7 @@ fn answer_line(
 
 // The next record of the job: a line, which is answered; its end; or something else, which ends it. It also ends where no more can be printed.
 fn next_line(
+    input: Stdin,
     buffer: &mut [u8],
     pattern: &[u8],
     code: &[u16],
@@ -82,6 +86,7 @@ fn next_line(
     taken: &mut [u16],
     lists: &mut [u16],
     pending: &mut [u16],
+    to: Stdout,
     out: &mut [u8],
     number: u64,
     from: Progress,
@@ -91,7 +96,7 @@ fn next_line(
 {
     let was = from.window;
     let printed = from.printed;
-    let window = window::ready(buffer, was);
+    let window = window::ready(input, buffer, was);
     match job::next_record(buffer, window.start, window.end, Job::LINE) {
         Next::End => Progress {
             window,
@@ -117,6 +122,7 @@ fn next_line(
                 taken,
                 lists,
                 pending,
+                to,
                 out,
                 number,
                 printed,
@@ -133,6 +139,7 @@ fn next_line(
 
 // All lines of the job. A proved loop ends, so it counts them up to a number that no job reaches.
 fn all_lines(
+    input: Stdin,
     buffer: &mut [u8],
     pattern: &[u8],
     code: &[u16],
@@ -143,6 +150,7 @@ fn all_lines(
     taken: &mut [u16],
     lists: &mut [u16],
     pending: &mut [u16],
+    to: Stdout,
     out: &mut [u8],
     from: Progress,
 ) -> Progress
@@ -153,8 +161,8 @@ fn all_lines(
     while number < 18446744073709551615 {
         number += 1;
         now = next_line(
-            buffer, pattern, code, places, depth, groups, seen, taken, lists, pending, out, number,
-            now,
+            input, buffer, pattern, code, places, depth, groups, seen, taken, lists, pending, to,
+            out, number, now,
         );
         if !now.goes {
             return now;
@@ -164,22 +172,23 @@ fn all_lines(
 }
 
 // What is printed where no record comes any more: that the input could not be read, that the job is broken, or nothing.
-fn print_end(out: &mut [u8], last: Progress) -> usize
+fn print_end(to: Stdout, errors: Stderr, out: &mut [u8], last: Progress) -> usize
     ensures { Gathered last.printed result }
 {
     let printed = last.printed;
     let failed = last.window.failed;
     if failed {
-        return printer::unreadable(out, printed, b"pick", b"job unreadable\n");
+        return printer::unreadable(to, errors, out, printed, b"pick", b"job unreadable\n");
     }
     if last.broken {
-        return job::print_broken(out, printed, false);
+        return job::print_broken(to, out, printed, false);
     }
     printed
 }
 
 // The job behind its pattern: the pattern's numbers and its lines, or its refusal.
 fn with_pattern(
+    input: Stdin,
     buffer: &mut [u8],
     window: Window,
     pattern: &[u8],
@@ -188,19 +197,22 @@ fn with_pattern(
     taken: &mut [u16],
     lists: &mut [u16],
     pending: &mut [u16],
+    to: Stdout,
+    errors: Stderr,
     out: &mut [u8],
 ) -> usize
     requires { Tables buffer.old code.old seen.old taken.old lists.old pending.old window.start window.end }
 {
     match machine::build(pattern, false, code) {
-        Built::Refused { number, place } => { job::print_refused(out, 0, number, place, false) }
+        Built::Refused { number, place } => { job::print_refused(to, out, 0, number, place, false) }
         Built::Machine {
             places,
             depth,
             groups,
         } => {
-            let printed = job::print_numbers(out, 0, places, depth, groups, false);
+            let printed = job::print_numbers(to, out, 0, places, depth, groups, false);
             let last = all_lines(
+                input,
                 buffer,
                 pattern,
                 code,
@@ -211,6 +223,7 @@ fn with_pattern(
                 taken,
                 lists,
                 pending,
+                to,
                 out,
                 Progress {
                     window,
@@ -219,14 +232,16 @@ fn with_pattern(
                     broken: false,
                 },
             );
-            print_end(out, last)
+            print_end(to, errors, out, last)
         }
     }
 }
 
 // What is printed where there is no record for the pattern.
-fn no_pattern(out: &mut [u8], window: Window) -> usize {
+fn no_pattern(to: Stdout, errors: Stderr, out: &mut [u8], window: Window) -> usize {
     print_end(
+        to,
+        errors,
         out,
         Progress {
             window,
@@ -239,6 +254,7 @@ fn no_pattern(out: &mut [u8], window: Window) -> usize {
 
 // The whole job: its pattern first.
 fn whole_job(
+    input: Stdin,
     buffer: &mut [u8],
     bytes: &mut [u8],
     code: &mut [u16],
@@ -246,11 +262,14 @@ fn whole_job(
     taken: &mut [u16],
     lists: &mut [u16],
     pending: &mut [u16],
+    to: Stdout,
+    errors: Stderr,
     out: &mut [u8],
 ) -> usize
     requires { Tables buffer.old code.old seen.old taken.old lists.old pending.old 0 0 × (body_bytes ≤ length bytes.old) }
 {
     let window = window::ready(
+        input,
         buffer,
         Window {
             start: 0,
@@ -260,12 +279,13 @@ fn whole_job(
         },
     );
     match job::next_record(buffer, window.start, window.end, Job::PATTERN) {
-        Next::End => no_pattern(out, window),
-        Next::Broken => no_pattern(out, window),
+        Next::End => no_pattern(to, errors, out, window),
+        Next::Broken => no_pattern(to, errors, out, window),
         Next::Body { start, end } => {
             let n = keep(bytes, &buffer[start..end]);
             let rest = window::behind(window, end);
             with_pattern(
+                input,
                 buffer,
                 rest,
                 &bytes[0..n],
@@ -274,13 +294,17 @@ fn whole_job(
                 taken,
                 lists,
                 pending,
+                to,
+                errors,
                 out,
             )
         }
     }
 }
 
-fn main() {
+fn main(rt: HostRuntime) {
+    let to = rt.stdout();
+    let errors = rt.stderr();
     let mut buffer = io::large_buffer();
     let mut bytes = [0u8; Job::BODY];
     let mut code = [0u16; Machine::CODE];
@@ -290,6 +314,7 @@ fn main() {
     let mut pending = [0u16; Machine::PENDING];
     let mut out = io::large_buffer();
     let n = whole_job(
+        rt.stdin(),
         &mut buffer,
         &mut bytes,
         &mut code,
@@ -297,7 +322,9 @@ fn main() {
         &mut taken,
         &mut lists,
         &mut pending,
+        to,
+        errors,
         &mut out,
     );
-    printer::finish(&out, n, b"pick");
+    printer::finish(to, errors, &out, n, b"pick");
 }

@@ -3,11 +3,12 @@ ghost use Rattle.std.specs.Prelude.{◌≡◌, ◌≤◌, length, take};
 ghost use Rattle.pick.specs.Window.{Moved, Grown};
 
 use job::Job;
+use std::io::Stdin;
 
 const RECORD: usize = records::BEFORE_BODY + Job::BODY;
 
 // The bytes of the buffer that are read and not yet used, whether nothing comes behind them, and whether that is because the input could not be read.
-#[derive(Drop)]
+#[derive(Clone, Copy)]
 pub struct Window {
     pub start: usize,
     pub end: usize,
@@ -50,13 +51,13 @@ fn moved(buffer: &mut [u8], from: Window) -> Window
 }
 
 // Reads once behind the window.
-fn more(buffer: &mut [u8], from: Window) -> Window
+fn more(input: Stdin, buffer: &mut [u8], from: Window) -> Window
     requires { (from.start ≤ from.end) × (from.end ≤ length buffer.old) }
     ensures { Grown buffer.old from.start from.end buffer.new result.start result.end }
 {
     let start = from.start;
     let end = from.end;
-    let n = read_behind(buffer, end);
+    let n = read_behind(input, buffer, end);
     if buffer.len() - end < n {
         return Window {
             start,
@@ -74,22 +75,22 @@ fn more(buffer: &mut [u8], from: Window) -> Window
 }
 
 // Reads once into the buffer from an offset on: how many bytes came, or that it failed.
-fn read_behind(buffer: &mut [u8], end: usize) -> usize
+fn read_behind(input: Stdin, buffer: &mut [u8], end: usize) -> usize
     requires { end ≤ length buffer.old }
     ensures { take end buffer.new ≡ take end buffer.old }
 {
-    printer::read(&mut buffer[end..])
+    printer::read(input, &mut buffer[end..])
 }
 
 // Reads until a whole record fits the window or the input has ended. A record has at most so many bytes, so as many turns are enough.
-fn filled(buffer: &mut [u8], from: Window) -> Window
+fn filled(input: Stdin, buffer: &mut [u8], from: Window) -> Window
     requires { (from.start ≤ from.end) × (from.end ≤ length buffer.old) }
     ensures { Grown buffer.old from.start from.end buffer.new result.start result.end }
 {
     let mut now = moved(buffer, from);
     let mut turns = RECORD;
     while 0 < turns {
-        now = more_unless_ended(buffer, now);
+        now = more_unless_ended(input, buffer, now);
         turns -= 1;
     }
     now
@@ -106,23 +107,23 @@ fn enough(window: Window) -> bool
 }
 
 // Reads once more where that is needed and can bring something.
-fn more_unless_ended(buffer: &mut [u8], from: Window) -> Window
+fn more_unless_ended(input: Stdin, buffer: &mut [u8], from: Window) -> Window
     requires { (from.start ≤ from.end) × (from.end ≤ length buffer.old) }
     ensures { Grown buffer.old from.start from.end buffer.new result.start result.end }
 {
     if enough(from) {
         return from;
     }
-    more(buffer, from)
+    more(input, buffer, from)
 }
 
 // The window ready for the next record.
-pub fn ready(buffer: &mut [u8], from: Window) -> Window
+pub fn ready(input: Stdin, buffer: &mut [u8], from: Window) -> Window
     requires { (from.start ≤ from.end) × (from.end ≤ length buffer.old) }
     ensures { Grown buffer.old from.start from.end buffer.new result.start result.end }
 {
     if enough(from) {
         return from;
     }
-    filled(buffer, from)
+    filled(input, buffer, from)
 }

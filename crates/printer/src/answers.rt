@@ -5,28 +5,36 @@ ghost use Rattle.printer.specs.Gathered.{Gathered};
 
 use crate::{bytes, decimal};
 use pattern::Spans;
+use std::io::Stdout;
 
 // A refusal: its number and its place.
-pub fn refusal(out: &mut [u8], at: usize, number: usize, place: usize, coded: bool) -> usize
+pub fn refusal(
+    to: Stdout,
+    out: &mut [u8],
+    at: usize,
+    number: usize,
+    place: usize,
+    coded: bool,
+) -> usize
     ensures { Gathered at result }
 {
-    let mut n = bytes(out, at, b"refused ", coded);
-    n = decimal(out, n, number as u64, coded);
-    n = bytes(out, n, b" ", coded);
-    decimal(out, n, place as u64, coded)
+    let mut n = bytes(to, out, at, b"refused ", coded);
+    n = decimal(to, out, n, number as u64, coded);
+    n = bytes(to, out, n, b" ", coded);
+    decimal(to, out, n, place as u64, coded)
 }
 
 // A row after a space: its start and end, or a dash where it is absent.
-pub fn row(out: &mut [u8], at: usize, start: u16, end: u16, coded: bool) -> usize
+pub fn row(to: Stdout, out: &mut [u8], at: usize, start: u16, end: u16, coded: bool) -> usize
     ensures { Gathered at result }
 {
     if start == Spans::ABSENT {
-        return bytes(out, at, b" -", coded);
+        return bytes(to, out, at, b" -", coded);
     }
-    let mut n = bytes(out, at, b" ", coded);
-    n = decimal(out, n, wide(start), coded);
-    n = bytes(out, n, b"-", coded);
-    decimal(out, n, wide(end), coded)
+    let mut n = bytes(to, out, at, b" ", coded);
+    n = decimal(to, out, n, wide(start), coded);
+    n = bytes(to, out, n, b"-", coded);
+    decimal(to, out, n, wide(end), coded)
 }
 
 fn wide(x: u16) -> u64 {
@@ -46,6 +54,7 @@ fn row_count(groups: usize) -> usize
 
 // Rows 0 to the group count, in order.
 fn rows(
+    to: Stdout,
     out: &mut [u8],
     at: usize,
     table: [u16; Spans::NUMBERS],
@@ -58,7 +67,7 @@ fn rows(
     let mut n = at;
     let mut k = 0;
     while k < last {
-        n = row(out, n, table[2 * k], table[2 * k + 1], coded);
+        n = row(to, out, n, table[2 * k], table[2 * k + 1], coded);
         k += 1;
     }
     n
@@ -66,6 +75,7 @@ fn rows(
 
 // What a match or a search found: the outcome, the steps, and for a match its rows.
 pub fn outcome(
+    to: Stdout,
     out: &mut [u8],
     at: usize,
     matched: bool,
@@ -77,17 +87,18 @@ pub fn outcome(
     ensures { Gathered at result }
 {
     if matched {
-        let n = bytes(out, at, b"whole ", coded);
-        let m = decimal(out, n, steps, coded);
-        rows(out, m, table, groups, coded)
+        let n = bytes(to, out, at, b"whole ", coded);
+        let m = decimal(to, out, n, steps, coded);
+        rows(to, out, m, table, groups, coded)
     } else {
-        let n = bytes(out, at, b"none ", coded);
-        decimal(out, n, steps, coded)
+        let n = bytes(to, out, at, b"none ", coded);
+        decimal(to, out, n, steps, coded)
     }
 }
 
 // What a whole match or a search answers: a refusal, or what it found.
 pub fn found(
+    to: Stdout,
     out: &mut [u8],
     at: usize,
     answer: matcher::Answer,
@@ -98,8 +109,9 @@ pub fn found(
     ensures { Gathered at result }
 {
     match answer {
-        matcher::Answer::Refused { number, place } => refusal(out, at, number, place, coded),
+        matcher::Answer::Refused { number, place } => refusal(to, out, at, number, place, coded),
         matcher::Answer::Match { steps } => outcome(
+            to,
             out,
             at,
             true,
@@ -109,6 +121,7 @@ pub fn found(
             coded,
         ),
         matcher::Answer::NoMatch { steps } => outcome(
+            to,
             out,
             at,
             false,

@@ -2,20 +2,21 @@
 ghost use Rattle.printer.specs.Gathered.{Brought};
 
 use crate::{CALLS, FAILED, again};
-use libc::STDIN_FILENO;
+use std::io::{Read, Stdin};
 
 // Reads once: how many bytes came, of which there are none at the input's end, or that it failed.
-pub fn read(buffer: &mut [u8]) -> usize
+pub fn read(mut from: Stdin, buffer: &mut [u8]) -> usize
     ensures { Brought buffer.old result }
 {
     let mut calls = CALLS;
     while 0 < calls {
-        let got = libc::read(STDIN_FILENO, buffer);
-        if 0 <= got {
-            return io::count(got, buffer);
-        }
-        if !again() {
-            return FAILED;
+        match from.read(buffer) {
+            Ok(got) => return got,
+            Err(error) => {
+                if !again(error) {
+                    return FAILED;
+                }
+            }
         }
         calls -= 1;
     }
@@ -23,12 +24,12 @@ pub fn read(buffer: &mut [u8]) -> usize
 }
 
 // Reads until a buffer is full or the input has ended: how many bytes came, or that it failed.
-pub fn read_full(buffer: &mut [u8]) -> usize
+pub fn read_full(from: Stdin, buffer: &mut [u8]) -> usize
     ensures { Brought buffer.old result }
 {
     let mut n = 0;
     while n < buffer.len() {
-        let more = read(&mut buffer[n..]);
+        let more = read(from, &mut buffer[n..]);
         if more == 0 {
             return n;
         }

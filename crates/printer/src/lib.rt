@@ -1,6 +1,7 @@
 // What the programs read and print with (01, "Known answers", on pick). Bytes are gathered in a lent buffer and written to standard output when it is full.
 // Each function takes the buffer and how many bytes are gathered in it, and answers how many there are then. The number FAILED says
 // that a write failed: then nothing more is gathered or written, so that what was written is the beginning of the output.
+// Who reads or writes is lent the handle of what is read or written, which `main` has from the system.
 // Where `coded` is true, each byte is printed as its two hexadecimal digits.
 #![tactic(auto)]
 
@@ -12,7 +13,8 @@ ghost use Rattle.printer.specs.Gathered.{Gathered};
 
 pub use answers::{found, outcome, refusal, row};
 pub use input::{read, read_full};
-use libc::{STDERR_FILENO, STDOUT_FILENO};
+use std::io::{Error, ErrorKind, Stderr, Stdout};
+use std::thread;
 
 // What stands for a number of bytes where they could not be read or written: more than any buffer has.
 pub const FAILED: usize = 18_446_744_073_709_551_615;
@@ -21,52 +23,51 @@ pub const FAILED: usize = 18_446_744_073_709_551_615;
 const CALLS: usize = 1_000_000;
 
 // Whether a call that failed is to be made again: it was interrupted, or came before the other side was ready.
-fn again() -> bool {
-    let error = os::errno();
-    if error == libc::EINTR {
+fn again(error: Error) -> bool {
+    let kind = error.kind();
+    if kind == ErrorKind::Interrupted {
         return true;
     }
-    if error == libc::EAGAIN {
-        libc::sched_yield();
+    if kind == ErrorKind::WouldBlock {
+        thread::yield_now();
         return true;
     }
     false
 }
 
 // How far a slice is written after one more call.
-fn further(s: &[u8], from: usize) -> usize
+fn further(to: Stdout, s: &[u8], from: usize) -> usize
     requires { from ≤ length s.now }
 {
-    let rest = &s[from..];
-    let got = libc::write(STDOUT_FILENO, rest);
-    if 0 <= got {
-        return from + io::count(got, rest);
+    match to.write_some(&s[from..]) {
+        Ok(got) => from + got,
+        Err(error) => if again(error) { from } else { FAILED },
     }
-    if again() { from } else { FAILED }
 }
 
 // Writes a slice to standard output, and answers whether all of it was written.
-fn written(s: &[u8]) -> bool {
+fn written(to: Stdout, s: &[u8]) -> bool {
     let mut from = 0;
     let mut calls = CALLS;
     while from < s.len() {
         if calls == 0 {
             return false;
         }
-        from = further(s, from);
+        from = further(to, s, from);
         calls -= 1;
     }
     from == s.len()
 }
 
 // A line on standard error: the program's name, and what could not be done.
-fn complain(program: &[u8], words: &[u8]) {
-    io::write_all(STDERR_FILENO, program);
-    io::write_all(STDERR_FILENO, words);
+fn complain(errors: Stderr, program: &[u8], words: &[u8]) {
+    let _ = errors.write_all(program);
+    let _ = errors.write_all(words);
 }
 
 // Writes out what is gathered, which leaves nothing.
-fn flush(out: &[u8], at: usize) -> usize
+#[tactic(auto, unfolding(crate::specs::Gathered::failures))]
+fn flush(to: Stdout, out: &[u8], at: usize) -> usize
     ensures { Gathered at result }
 {
     if at == FAILED {
@@ -75,37 +76,45 @@ fn flush(out: &[u8], at: usize) -> usize
     if out.len() < at {
         return FAILED;
     }
-    if written(&out[0..at]) { 0 } else { FAILED }
+    if written(to, &out[0..at]) { 0 } else { FAILED }
 }
 
 // Writes out what is left at the program's end, and says on standard error where not all of the output was written.
-pub fn finish(out: &[u8], at: usize, program: &[u8]) -> usize
+pub fn finish(to: Stdout, errors: Stderr, out: &[u8], at: usize, program: &[u8]) -> usize
     ensures { Gathered at result }
 {
-    let n = flush(out, at);
+    let n = flush(to, out, at);
     if n == FAILED {
-        complain(program, b": standard output cannot be written\n");
+        complain(errors, program, b": standard output cannot be written\n");
     }
     n
 }
 
 // The line that stands last where the input could not be read, which standard error says too.
-pub fn unreadable(out: &mut [u8], at: usize, program: &[u8], line: &[u8]) -> usize
+pub fn unreadable(
+    to: Stdout,
+    errors: Stderr,
+    out: &mut [u8],
+    at: usize,
+    program: &[u8],
+    line: &[u8],
+) -> usize
     ensures { Gathered at result }
 {
-    complain(program, b": standard input cannot be read\n");
-    plain_all(out, at, line)
+    complain(errors, program, b": standard input cannot be read\n");
+    plain_all(to, out, at, line)
 }
 
 // One byte more, as it is.
-fn plain(out: &mut [u8], at: usize, b: u8) -> usize
+#[tactic(auto, unfolding(crate::specs::Gathered::failures))]
+fn plain(to: Stdout, out: &mut [u8], at: usize, b: u8) -> usize
     ensures { Gathered at result }
 {
     if at < out.len() {
         out[at] = b;
         at + 1
     } else {
-        let n = flush(out, at);
+        let n = flush(to, out, at);
         if n < out.len() {
             out[n] = b;
             n + 1
@@ -116,12 +125,12 @@ fn plain(out: &mut [u8], at: usize, b: u8) -> usize
 }
 
 // A byte as two hexadecimal digits in lower case.
-pub fn hex(out: &mut [u8], at: usize, b: u8) -> usize
+pub fn hex(to: Stdout, out: &mut [u8], at: usize, b: u8) -> usize
     ensures { Gathered at result }
 {
     let mut text = [0u8; 16];
     let k = io::hex(wide(b), 2, &mut text);
-    plain_all(out, at, &text[..k])
+    plain_all(to, out, at, &text[..k])
 }
 
 fn wide(b: u8) -> u64 {
@@ -129,58 +138,58 @@ fn wide(b: u8) -> u64 {
 }
 
 // All bytes of a slice in order, as they are.
-fn plain_all(out: &mut [u8], at: usize, s: &[u8]) -> usize
+fn plain_all(to: Stdout, out: &mut [u8], at: usize, s: &[u8]) -> usize
     ensures { Gathered at result }
 {
     let mut n = at;
     let mut i = 0;
     while i < s.len() {
-        n = plain(out, n, s[i]);
+        n = plain(to, out, n, s[i]);
         i += 1;
     }
     n
 }
 
 // All bytes of a slice in hexadecimal digits, in order.
-fn coded_all(out: &mut [u8], at: usize, s: &[u8]) -> usize
+fn coded_all(to: Stdout, out: &mut [u8], at: usize, s: &[u8]) -> usize
     ensures { Gathered at result }
 {
     let mut n = at;
     let mut i = 0;
     while i < s.len() {
-        n = hex(out, n, s[i]);
+        n = hex(to, out, n, s[i]);
         i += 1;
     }
     n
 }
 
 // The bytes of a slice, in order.
-pub fn bytes(out: &mut [u8], at: usize, s: &[u8], coded: bool) -> usize
+pub fn bytes(to: Stdout, out: &mut [u8], at: usize, s: &[u8], coded: bool) -> usize
     ensures { Gathered at result }
 {
     if coded {
-        coded_all(out, at, s)
+        coded_all(to, out, at, s)
     } else {
-        plain_all(out, at, s)
+        plain_all(to, out, at, s)
     }
 }
 
 // A number in decimal digits.
-pub fn decimal(out: &mut [u8], at: usize, n: u64, coded: bool) -> usize
+pub fn decimal(to: Stdout, out: &mut [u8], at: usize, n: u64, coded: bool) -> usize
     ensures { Gathered at result }
 {
     let mut text = [0u8; 20];
     let k = io::decimal(n, &mut text);
-    bytes(out, at, &text[..k], coded)
+    bytes(to, out, at, &text[..k], coded)
 }
 
 // A byte string as hexadecimal digits, the empty one as a dot.
-pub fn byte_string(out: &mut [u8], at: usize, s: &[u8]) -> usize
+pub fn byte_string(to: Stdout, out: &mut [u8], at: usize, s: &[u8]) -> usize
     ensures { Gathered at result }
 {
     if s.len() == 0 {
-        plain(out, at, b'.')
+        plain(to, out, at, b'.')
     } else {
-        coded_all(out, at, s)
+        coded_all(to, out, at, s)
     }
 }

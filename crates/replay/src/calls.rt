@@ -4,70 +4,78 @@ ghost use Rattle.printer.specs.Gathered.{Gathered};
 
 use crate::{fields, jobs};
 use pattern::Spans;
+use std::io::Stdout;
 
 // What a line that is no case is answered by.
-pub fn bad_line(out: &mut [u8], at: usize) -> usize
+pub fn bad_line(to: Stdout, out: &mut [u8], at: usize) -> usize
     ensures { Gathered at result }
 {
-    printer::bytes(out, at, b"bad line\n", false)
+    printer::bytes(to, out, at, b"bad line\n", false)
 }
 
 // The case as it came, and what stands before every answer.
-fn case(out: &mut [u8], at: usize, query: &[u8]) -> usize
+fn case(to: Stdout, out: &mut [u8], at: usize, query: &[u8]) -> usize
     ensures { Gathered at result }
 {
-    let n = printer::bytes(out, at, query, false);
-    printer::bytes(out, n, b" -> ", false)
+    let n = printer::bytes(to, out, at, query, false);
+    printer::bytes(to, out, n, b" -> ", false)
 }
 
-fn end_line(out: &mut [u8], at: usize) -> usize
+fn end_line(to: Stdout, out: &mut [u8], at: usize) -> usize
     ensures { Gathered at result }
 {
-    printer::bytes(out, at, b"\n", false)
+    printer::bytes(to, out, at, b"\n", false)
 }
 
 // A number after a space.
-fn number(out: &mut [u8], at: usize, n: usize) -> usize
+fn number(to: Stdout, out: &mut [u8], at: usize, n: usize) -> usize
     ensures { Gathered at result }
 {
-    let m = printer::bytes(out, at, b" ", false);
-    printer::decimal(out, m, n as u64, false)
+    let m = printer::bytes(to, out, at, b" ", false);
+    printer::decimal(to, out, m, n as u64, false)
 }
 
 // What checking answers.
-fn checked(out: &mut [u8], at: usize, answer: pattern::Answer) -> usize
+fn checked(to: Stdout, out: &mut [u8], at: usize, answer: pattern::Answer) -> usize
     ensures { Gathered at result }
 {
     match answer {
         pattern::Answer::Refused {
             number: refused,
             place,
-        } => printer::refusal(out, at, refused, place, false),
+        } => printer::refusal(to, out, at, refused, place, false),
         pattern::Answer::Accepted {
             places,
             depth,
             groups,
         } => {
-            let mut n = printer::bytes(out, at, b"ok", false);
-            n = number(out, n, places);
-            n = number(out, n, depth);
-            number(out, n, groups)
+            let mut n = printer::bytes(to, out, at, b"ok", false);
+            n = number(to, out, n, places);
+            n = number(to, out, n, depth);
+            number(to, out, n, groups)
         }
     }
 }
 
 // check PATTERN
-pub fn check(query: &[u8], word: usize, store: &mut [u8], out: &mut [u8], at: usize) -> usize
+pub fn check(
+    query: &[u8],
+    word: usize,
+    store: &mut [u8],
+    to: Stdout,
+    out: &mut [u8],
+    at: usize,
+) -> usize
     requires { word ≤ length query.now }
 {
     let field = fields::after_space(query, word, store, 0);
     let end = field.end;
     if !fields::ended(query, field.whole, field.next) {
-        return bad_line(out, at);
+        return bad_line(to, out, at);
     }
-    let mut n = case(out, at, query);
-    n = checked(out, n, pattern::check(&store[0..end]));
-    end_line(out, n)
+    let mut n = case(to, out, at, query);
+    n = checked(to, out, n, pattern::check(&store[0..end]));
+    end_line(to, out, n)
 }
 
 // How many groups a pattern has, for printing its rows.
@@ -100,14 +108,15 @@ fn find_at(
     searches: bool,
     bytes: &[u8],
     line: &[u8],
+    to: Stdout,
     out: &mut [u8],
     at: usize,
 ) -> usize {
     let mut table = Spans::absent_table();
     let answer = call(searches, bytes, line, &mut table);
-    let mut n = case(out, at, query);
-    n = printer::found(out, n, answer, table, groups_of(bytes), false);
-    end_line(out, n)
+    let mut n = case(to, out, at, query);
+    n = printer::found(to, out, n, answer, table, groups_of(bytes), false);
+    end_line(to, out, n)
 }
 
 // match PATTERN LINE, search PATTERN LINE
@@ -116,6 +125,7 @@ pub fn find(
     word: usize,
     searches: bool,
     store: &mut [u8],
+    to: Stdout,
     out: &mut [u8],
     at: usize,
 ) -> usize
@@ -125,9 +135,17 @@ pub fn find(
     let one = read.one;
     let two = read.two;
     if fields::ended(query, read.whole, read.next) {
-        find_at(query, searches, &store[0..one], &store[one..two], out, at)
+        find_at(
+            query,
+            searches,
+            &store[0..one],
+            &store[one..two],
+            to,
+            out,
+            at,
+        )
     } else {
-        bad_line(out, at)
+        bad_line(to, out, at)
     }
 }
 
@@ -153,17 +171,17 @@ fn joined(low: u8, high: u8) -> u16 {
 }
 
 // The numbers of a table, the lower byte of each first; none as a dot.
-fn table_bytes(out: &mut [u8], at: usize, table: &[u16]) -> usize
+fn table_bytes(to: Stdout, out: &mut [u8], at: usize, table: &[u16]) -> usize
     ensures { Gathered at result }
 {
-    let mut n = printer::bytes(out, at, b" ", false);
+    let mut n = printer::bytes(to, out, at, b" ", false);
     if table.len() == 0 {
-        return printer::bytes(out, n, b".", false);
+        return printer::bytes(to, out, n, b".", false);
     }
     let mut i = 0;
     while i < table.len() {
-        n = printer::hex(out, n, low(table[i]));
-        n = printer::hex(out, n, high(table[i]));
+        n = printer::hex(to, out, n, low(table[i]));
+        n = printer::hex(to, out, n, high(table[i]));
         i += 1;
     }
     n
@@ -178,20 +196,20 @@ fn high(x: u16) -> u8 {
 }
 
 // What a whole match or a search answers, without its rows.
-fn told(out: &mut [u8], at: usize, answer: matcher::Answer) -> usize
+fn told(to: Stdout, out: &mut [u8], at: usize, answer: matcher::Answer) -> usize
     ensures { Gathered at result }
 {
     match answer {
         matcher::Answer::Refused { number, place } => printer::refusal(
-            out, at, number, place, false,
+            to, out, at, number, place, false,
         ),
         matcher::Answer::Match { steps } => {
-            let n = printer::bytes(out, at, b"whole ", false);
-            printer::decimal(out, n, steps as u64, false)
+            let n = printer::bytes(to, out, at, b"whole ", false);
+            printer::decimal(to, out, n, steps as u64, false)
         }
         matcher::Answer::NoMatch { steps } => {
-            let n = printer::bytes(out, at, b"none ", false);
-            printer::decimal(out, n, steps as u64, false)
+            let n = printer::bytes(to, out, at, b"none ", false);
+            printer::decimal(to, out, n, steps as u64, false)
         }
     }
 }
@@ -203,14 +221,15 @@ fn find_in_table(
     bytes: &[u8],
     line: &[u8],
     table: &mut [u16],
+    to: Stdout,
     out: &mut [u8],
     at: usize,
 ) -> usize {
     let answer = call(searches, bytes, line, table);
-    let mut n = case(out, at, query);
-    n = told(out, n, answer);
-    n = table_bytes(out, n, table);
-    end_line(out, n)
+    let mut n = case(to, out, at, query);
+    n = told(to, out, n, answer);
+    n = table_bytes(to, out, n, table);
+    end_line(to, out, n)
 }
 
 // tmatch PATTERN LINE TABLE, tsearch PATTERN LINE TABLE
@@ -220,6 +239,7 @@ pub fn find_in(
     searches: bool,
     store: &mut [u8],
     table: &mut [u16],
+    to: Stdout,
     out: &mut [u8],
     at: usize,
 ) -> usize
@@ -237,43 +257,50 @@ pub fn find_in(
             &store[0..one],
             &store[one..two],
             &mut table[0..numbers],
+            to,
             out,
             at,
         )
     } else {
-        bad_line(out, at)
+        bad_line(to, out, at)
     }
 }
 
 // What replace-all answers, with the output that stands at the buffer's front.
-fn replaced(out: &mut [u8], at: usize, answer: replacer::Replaced, buffer: &[u8]) -> usize
+fn replaced(
+    to: Stdout,
+    out: &mut [u8],
+    at: usize,
+    answer: replacer::Replaced,
+    buffer: &[u8],
+) -> usize
     ensures { Gathered at result }
 {
     match answer {
         replacer::Replaced::Refused {
             number: refused,
             place,
-        } => printer::refusal(out, at, refused, place, false),
+        } => printer::refusal(to, out, at, refused, place, false),
         replacer::Replaced::Done {
             length,
             replacements,
             steps,
         } => {
-            let mut n = output(out, at, buffer, length);
-            n = number(out, n, length);
-            n = number(out, n, replacements);
-            n = printer::bytes(out, n, b" ", false);
-            printer::decimal(out, n, steps, false)
+            let mut n = output(to, out, at, buffer, length);
+            n = number(to, out, n, length);
+            n = number(to, out, n, replacements);
+            n = printer::bytes(to, out, n, b" ", false);
+            printer::decimal(to, out, n, steps, false)
         }
     }
 }
 
 // The first bytes of a buffer.
-fn output(out: &mut [u8], at: usize, buffer: &[u8], long: usize) -> usize
+fn output(to: Stdout, out: &mut [u8], at: usize, buffer: &[u8], long: usize) -> usize
     ensures { Gathered at result }
 {
     if long <= buffer.len() {
-        printer::byte_string(out, at, &buffer[0..long])
+        printer::byte_string(to, out, at, &buffer[0..long])
     } else {
         at
     }
@@ -301,7 +328,7 @@ fn kept(buffer: &[u8], from: usize) -> bool {
 }
 
 // Where the bytes of a buffer must be as they were: behind the output, or all of them.
-fn written(answer: replacer::Replaced) -> usize {
+fn written(answer: &replacer::Replaced) -> usize {
     match answer {
         replacer::Replaced::Refused {
             number: _,
@@ -311,18 +338,18 @@ fn written(answer: replacer::Replaced) -> usize {
             length,
             replacements: _,
             steps: _,
-        } => length,
+        } => *length,
     }
 }
 
 // What is said where a byte behind the output is not as it was.
-fn print_kept(out: &mut [u8], at: usize, same: bool) -> usize
+fn print_kept(to: Stdout, out: &mut [u8], at: usize, same: bool) -> usize
     ensures { Gathered at result }
 {
     if same {
         at
     } else {
-        printer::bytes(out, at, b" buffer changed", false)
+        printer::bytes(to, out, at, b" buffer changed", false)
     }
 }
 
@@ -333,15 +360,17 @@ fn replace_at(
     parts: &[u8],
     line: &[u8],
     buffer: &mut [u8],
+    to: Stdout,
     out: &mut [u8],
     at: usize,
 ) -> usize {
     fill(buffer);
     let answer = replacer::replace_all(bytes, parts, line, buffer);
-    let mut n = case(out, at, query);
-    n = replaced(out, n, answer, buffer);
-    n = print_kept(out, n, kept(buffer, written(answer)));
-    end_line(out, n)
+    let mut n = case(to, out, at, query);
+    let same = kept(buffer, written(&answer));
+    n = replaced(to, out, n, answer, buffer);
+    n = print_kept(to, out, n, same);
+    end_line(to, out, n)
 }
 
 // replace PATTERN TEMPLATE LINE ROOM
@@ -350,6 +379,7 @@ pub fn replace(
     word: usize,
     store: &mut [u8],
     room: &mut [u8],
+    to: Stdout,
     out: &mut [u8],
     at: usize,
 ) -> usize
@@ -368,41 +398,42 @@ pub fn replace(
                 &store[one..two],
                 &store[two..three],
                 &mut room[0..value],
+                to,
                 out,
                 at,
             );
         }
     }
-    bad_line(out, at)
+    bad_line(to, out, at)
 }
 
 // What a piece is, and the part itself.
-fn pieced(out: &mut [u8], at: usize, answer: template::Answer, part: &[u8]) -> usize
+fn pieced(to: Stdout, out: &mut [u8], at: usize, answer: template::Answer, part: &[u8]) -> usize
     ensures { Gathered at result }
 {
     match answer {
         template::Answer::Refused {
             number: refused,
             place,
-        } => printer::refusal(out, at, refused, place, false),
+        } => printer::refusal(to, out, at, refused, place, false),
         template::Answer::Template { start, end } => {
-            let n = printer::bytes(out, at, b"template", false);
-            spanned(out, n, start, end, part)
+            let n = printer::bytes(to, out, at, b"template", false);
+            spanned(to, out, n, start, end, part)
         }
         template::Answer::Line { start, end } => {
-            let n = printer::bytes(out, at, b"line", false);
-            spanned(out, n, start, end, part)
+            let n = printer::bytes(to, out, at, b"line", false);
+            spanned(to, out, n, start, end, part)
         }
     }
 }
 
-fn spanned(out: &mut [u8], at: usize, start: usize, end: usize, part: &[u8]) -> usize
+fn spanned(to: Stdout, out: &mut [u8], at: usize, start: usize, end: usize, part: &[u8]) -> usize
     ensures { Gathered at result }
 {
-    let mut n = number(out, at, start);
-    n = number(out, n, end);
-    n = printer::bytes(out, n, b" ", false);
-    printer::byte_string(out, n, part)
+    let mut n = number(to, out, at, start);
+    n = number(to, out, n, end);
+    n = printer::bytes(to, out, n, b" ", false);
+    printer::byte_string(to, out, n, part)
 }
 
 // A piece by both calls.
@@ -412,13 +443,20 @@ fn piece_at<'a>(
     line: &'a [u8],
     table: &[u16],
     value: usize,
+    to: Stdout,
     out: &mut [u8],
     at: usize,
 ) -> usize {
     let answer = template::piece(bytes, line, table, value);
-    let n = case(out, at, query);
-    let m = pieced(out, n, answer, template::part(bytes, line, table, value));
-    end_line(out, m)
+    let n = case(to, out, at, query);
+    let m = pieced(
+        to,
+        out,
+        n,
+        answer,
+        template::part(bytes, line, table, value),
+    );
+    end_line(to, out, m)
 }
 
 // piece TEMPLATE LINE TABLE NUMBER
@@ -427,6 +465,7 @@ pub fn piece(
     word: usize,
     store: &mut [u8],
     table: &mut [u16],
+    to: Stdout,
     out: &mut [u8],
     at: usize,
 ) -> usize
@@ -445,24 +484,32 @@ pub fn piece(
             &store[one..two],
             &table[0..numbers],
             value,
+            to,
             out,
             at,
         )
     } else {
-        bad_line(out, at)
+        bad_line(to, out, at)
     }
 }
 
 // pick JOB
-pub fn pick(query: &[u8], word: usize, store: &mut [u8], out: &mut [u8], at: usize) -> usize
+pub fn pick(
+    query: &[u8],
+    word: usize,
+    store: &mut [u8],
+    to: Stdout,
+    out: &mut [u8],
+    at: usize,
+) -> usize
     requires { word ≤ length query.now }
 {
     let field = fields::after_space(query, word, store, 0);
     let end = field.end;
     if !fields::ended(query, field.whole, field.next) {
-        return bad_line(out, at);
+        return bad_line(to, out, at);
     }
-    let mut n = case(out, at, query);
-    n = jobs::picked(&store[0..end], out, n);
-    end_line(out, n)
+    let mut n = case(to, out, at, query);
+    n = jobs::picked(&store[0..end], to, out, n);
+    end_line(to, out, n)
 }

@@ -4,6 +4,7 @@ ghost use Rattle.printer.specs.Gathered.{Gathered};
 
 use job::{Job, Next};
 use pattern::Spans;
+use std::io::Stdout;
 
 // How far the lines of a job are printed.
 #[derive(Drop)]
@@ -14,6 +15,7 @@ struct Step {
 
 // What a line's match found.
 fn print_found(
+    to: Stdout,
     out: &mut [u8],
     at: usize,
     number: u64,
@@ -27,8 +29,9 @@ fn print_found(
         matcher::Answer::Refused {
             number: refused,
             place,
-        } => job::print_refused(out, at, refused, place, true),
+        } => job::print_refused(to, out, at, refused, place, true),
         matcher::Answer::Match { steps } => job::print_line(
+            to,
             out,
             at,
             number,
@@ -39,6 +42,7 @@ fn print_found(
             true,
         ),
         matcher::Answer::NoMatch { steps } => job::print_line(
+            to,
             out,
             at,
             number,
@@ -58,6 +62,7 @@ fn one_line(
     body: &[u8],
     groups: usize,
     number: u64,
+    to: Stdout,
     out: &mut [u8],
     at: usize,
 ) -> Step
@@ -71,14 +76,14 @@ fn one_line(
         },
         Next::Broken => Step {
             next: bytes.len(),
-            printed: job::print_broken(out, at, true),
+            printed: job::print_broken(to, out, at, true),
         },
         Next::Body { start, end } => {
             let mut rows = Spans::absent_table();
             let answer = matcher::whole_match(body, &bytes[start..end], &mut rows);
             Step {
                 next: end,
-                printed: print_found(out, at, number, answer, rows, groups),
+                printed: print_found(to, out, at, number, answer, rows, groups),
             }
         }
     }
@@ -90,6 +95,7 @@ fn all_lines(
     from: usize,
     body: &[u8],
     groups: usize,
+    to: Stdout,
     out: &mut [u8],
     at: usize,
 ) -> usize
@@ -100,7 +106,7 @@ fn all_lines(
     let mut number: u64 = 0;
     while next < bytes.len() {
         number += 1;
-        let step = one_line(bytes, next, body, groups, number, out, printed);
+        let step = one_line(bytes, next, body, groups, number, to, out, printed);
         next = step.next;
         printed = step.printed;
     }
@@ -108,29 +114,36 @@ fn all_lines(
 }
 
 // The job behind its pattern.
-fn with_pattern(bytes: &[u8], from: usize, body: &[u8], out: &mut [u8], at: usize) -> usize
+fn with_pattern(
+    bytes: &[u8],
+    from: usize,
+    body: &[u8],
+    to: Stdout,
+    out: &mut [u8],
+    at: usize,
+) -> usize
     requires { from ≤ length bytes.now }
 {
     match pattern::check(body) {
         pattern::Answer::Refused { number, place } => job::print_refused(
-            out, at, number, place, true,
+            to, out, at, number, place, true,
         ),
         pattern::Answer::Accepted {
             places,
             depth,
             groups,
         } => {
-            let n = job::print_numbers(out, at, places, depth, groups, true);
-            all_lines(bytes, from, body, groups, out, n)
+            let n = job::print_numbers(to, out, at, places, depth, groups, true);
+            all_lines(bytes, from, body, groups, to, out, n)
         }
     }
 }
 
 // The whole job.
-pub fn picked(bytes: &[u8], out: &mut [u8], at: usize) -> usize {
+pub fn picked(bytes: &[u8], to: Stdout, out: &mut [u8], at: usize) -> usize {
     match job::next_record(bytes, 0, bytes.len(), Job::PATTERN) {
-        Next::End => job::print_broken(out, at, true),
-        Next::Broken => job::print_broken(out, at, true),
-        Next::Body { start, end } => with_pattern(bytes, end, &bytes[start..end], out, at),
+        Next::End => job::print_broken(to, out, at, true),
+        Next::Broken => job::print_broken(to, out, at, true),
+        Next::Body { start, end } => with_pattern(bytes, end, &bytes[start..end], to, out, at),
     }
 }

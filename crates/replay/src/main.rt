@@ -9,6 +9,8 @@ mod jobs;
 ghost use Rattle.std.specs.Prelude.{◌≤◌, ◌<◌, length};
 ghost use Rattle.printer.specs.Gathered.{Gathered};
 
+use std::io::{Stderr, Stdin, Stdout};
+
 // The longest line that is read, and room for the bytes that its digits can stand for.
 const LINE: usize = 300_000;
 
@@ -67,28 +69,28 @@ fn word_end(query: &[u8]) -> usize
 
 // The call that a word names, or 0.
 fn call_of(word: &[u8]) -> usize {
-    if check::same(word, b"check") {
+    if word == b"check".as_slice() {
         return CHECK;
     }
-    if check::same(word, b"match") {
+    if word == b"match".as_slice() {
         return MATCH;
     }
-    if check::same(word, b"search") {
+    if word == b"search".as_slice() {
         return SEARCH;
     }
-    if check::same(word, b"tmatch") {
+    if word == b"tmatch".as_slice() {
         return TABLE_MATCH;
     }
-    if check::same(word, b"tsearch") {
+    if word == b"tsearch".as_slice() {
         return TABLE_SEARCH;
     }
-    if check::same(word, b"replace") {
+    if word == b"replace".as_slice() {
         return REPLACE;
     }
-    if check::same(word, b"piece") {
+    if word == b"piece".as_slice() {
         return PIECE;
     }
-    if check::same(word, b"pick") {
+    if word == b"pick".as_slice() {
         return PICK;
     }
     0
@@ -114,21 +116,22 @@ fn answer_plain(
     query: &[u8],
     word: usize,
     store: &mut [u8],
+    to: Stdout,
     out: &mut [u8],
     at: usize,
 ) -> usize
     requires { word ≤ length query.now }
 {
     if call == 0 {
-        return calls::bad_line(out, at);
+        return calls::bad_line(to, out, at);
     }
     if call == CHECK {
-        return calls::check(query, word, store, out, at);
+        return calls::check(query, word, store, to, out, at);
     }
     if call == PICK {
-        return calls::pick(query, word, store, out, at);
+        return calls::pick(query, word, store, to, out, at);
     }
-    calls::find(query, word, call == SEARCH, store, out, at)
+    calls::find(query, word, call == SEARCH, store, to, out, at)
 }
 
 // A call that takes a table.
@@ -138,15 +141,16 @@ fn answer_table(
     word: usize,
     store: &mut [u8],
     table: &mut [u16],
+    to: Stdout,
     out: &mut [u8],
     at: usize,
 ) -> usize
     requires { word ≤ length query.now }
 {
     if call == PIECE {
-        return calls::piece(query, word, store, table, out, at);
+        return calls::piece(query, word, store, table, to, out, at);
     }
-    calls::find_in(query, word, call == TABLE_SEARCH, store, table, out, at)
+    calls::find_in(query, word, call == TABLE_SEARCH, store, table, to, out, at)
 }
 
 // Answers one whole line: the call that its first word names, on the fields behind it.
@@ -155,6 +159,7 @@ fn answer(
     store: &mut [u8],
     table: &mut [u16],
     room: &mut [u8],
+    to: Stdout,
     out: &mut [u8],
     at: usize,
 ) -> usize {
@@ -162,12 +167,12 @@ fn answer(
     let word = word_end(query);
     let call = call_of(&query[0..word]);
     if call == REPLACE {
-        return calls::replace(query, word, store, room, out, at);
+        return calls::replace(query, word, store, room, to, out, at);
     }
     if TABLE_MATCH <= call {
-        return answer_table(call, query, word, store, table, out, at);
+        return answer_table(call, query, word, store, table, to, out, at);
     }
-    answer_plain(call, query, word, store, out, at)
+    answer_plain(call, query, word, store, to, out, at)
 }
 
 // A line that was read to its end: answered, or too long to be kept.
@@ -176,15 +181,16 @@ fn finish(
     store: &mut [u8],
     table: &mut [u16],
     room: &mut [u8],
+    to: Stdout,
     out: &mut [u8],
     from: Progress,
 ) -> Progress {
     let filled = from.filled;
     let mut printed = from.printed;
     if from.cut {
-        printed = calls::bad_line(out, printed);
+        printed = calls::bad_line(to, out, printed);
     } else if filled <= line.len() {
-        printed = answer(&line[0..filled], store, table, room, out, printed);
+        printed = answer(&line[0..filled], store, table, room, to, out, printed);
     }
     Progress {
         filled: 0,
@@ -200,11 +206,12 @@ fn take_byte(
     store: &mut [u8],
     table: &mut [u16],
     room: &mut [u8],
+    to: Stdout,
     out: &mut [u8],
     from: Progress,
 ) -> Progress {
     if b == b'\n' {
-        return finish(line, store, table, room, out, from);
+        return finish(line, store, table, room, to, out, from);
     }
     let filled = from.filled;
     let cut = from.cut;
@@ -232,13 +239,14 @@ fn go_through(
     store: &mut [u8],
     table: &mut [u16],
     room: &mut [u8],
+    to: Stdout,
     out: &mut [u8],
     from: Progress,
 ) -> Progress {
     let mut now = from;
     let mut i = 0;
     while i < block.len() {
-        now = take_byte(block[i], line, store, table, room, out, now);
+        now = take_byte(block[i], line, store, table, room, to, out, now);
         i += 1;
     }
     now
@@ -284,17 +292,19 @@ fn goes_on(count: usize, printed: usize) -> bool {
 
 // Reads once and goes through what came.
 fn read_some(
+    input: Stdin,
     block: &mut [u8],
     line: &mut [u8],
     store: &mut [u8],
     table: &mut [u16],
     room: &mut [u8],
+    to: Stdout,
     out: &mut [u8],
     from: Progress,
 ) -> Turn {
-    let count = printer::read(block);
+    let count = printer::read(input, block);
     let n = arrived(block, count, from.filled);
-    let now = go_through(&block[0..n], line, store, table, room, out, from);
+    let now = go_through(&block[0..n], line, store, table, room, to, out, from);
     Turn {
         goes: goes_on(count, now.printed),
         failed: count == printer::FAILED,
@@ -312,11 +322,13 @@ fn turns_left(turns: u64, goes: bool) -> u64
 
 // Reads to the end of the input; a last line may lack its line end. A proved loop ends, so its turns are counted down from a number that no run comes to the end of.
 fn read_all(
+    input: Stdin,
     block: &mut [u8],
     line: &mut [u8],
     store: &mut [u8],
     table: &mut [u16],
     room: &mut [u8],
+    to: Stdout,
     out: &mut [u8],
 ) -> Turn {
     let mut turns: u64 = 18446744073709551615;
@@ -331,23 +343,25 @@ fn read_all(
     };
     while 0 < turns {
         let now = turn.now;
-        turn = read_some(block, line, store, table, room, out, now);
+        turn = read_some(input, block, line, store, table, room, to, out, now);
         turns = turns_left(turns, turn.goes);
     }
     turn
 }
 
 // What is printed behind the last case: that the input could not be read, or nothing.
-fn print_end(out: &mut [u8], at: usize, failed: bool) -> usize
+fn print_end(to: Stdout, errors: Stderr, out: &mut [u8], at: usize, failed: bool) -> usize
     ensures { Gathered at result }
 {
     if failed {
-        return printer::unreadable(out, at, b"replay", b"input unreadable\n");
+        return printer::unreadable(to, errors, out, at, b"replay", b"input unreadable\n");
     }
     at
 }
 
-fn main() {
+fn main(rt: HostRuntime) {
+    let to = rt.stdout();
+    let errors = rt.stderr();
     let mut block = io::large_buffer();
     let mut line = [0u8; LINE];
     let mut store = [0u8; STORE];
@@ -355,8 +369,15 @@ fn main() {
     let mut room = [0u8; ROOM];
     let mut out = io::large_buffer();
     let turn = read_all(
-        &mut block, &mut line, &mut store, &mut table, &mut room, &mut out,
+        rt.stdin(),
+        &mut block,
+        &mut line,
+        &mut store,
+        &mut table,
+        &mut room,
+        to,
+        &mut out,
     );
-    let printed = print_end(&mut out, turn.now.printed, turn.failed);
-    printer::finish(&out, printed, b"replay");
+    let printed = print_end(to, errors, &mut out, turn.now.printed, turn.failed);
+    printer::finish(to, errors, &out, printed, b"replay");
 }
