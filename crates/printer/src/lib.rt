@@ -1,7 +1,7 @@
 // What the programs read and print with (01, "Known answers", on pick). Bytes are gathered in a lent buffer and written to standard output when it is full.
 // Each function takes the buffer and how many bytes are gathered in it, and answers how many there are then. The number FAILED says
 // that a write failed: then nothing more is gathered or written, so that what was written is the beginning of the output.
-// Who reads or writes is lent the handle of what is read or written, which `main` has from the system.
+// A function that reads or writes is given the handle of the stream, which `main` has from the system.
 // Where `coded` is true, each byte is printed as its two hexadecimal digits.
 #![tactic(auto)]
 
