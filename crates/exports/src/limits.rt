@@ -8,7 +8,7 @@ use memory::Memory;
 use pattern::{Line, Pattern, Spans, Template};
 
 // Lent memory: how long that of the built variants has to be, and the status where any is too short.
-#[derive(Drop)]
+#[derive(Clone, Copy)]
 pub struct Lent {}
 
 impl Lent {

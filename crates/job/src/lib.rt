@@ -10,7 +10,7 @@ use records::Header;
 use std::io::Stdout;
 
 // The kinds of a job's records, and the greatest length of a body.
-#[derive(Drop)]
+#[derive(Clone, Copy)]
 pub struct Job {}
 
 impl Job {
@@ -29,7 +29,7 @@ impl Job {
 }
 
 // What comes next in the job.
-#[derive(Drop)]
+#[derive(Clone, Copy)]
 pub enum Next {
     // nothing: the job is at its end
     End,

@@ -7,7 +7,7 @@ use pattern::PlaceKind;
 use std::io::Stdout;
 
 // How much is printed, and the groups of the pattern.
-#[derive(Drop)]
+#[derive(Clone, Copy)]
 pub struct Shown {
     pub printed: usize,
     pub groups: usize,

@@ -10,7 +10,7 @@ use pattern::{Pattern, PlaceKind, Spans};
 use run::Ran;
 
 // The sizes of a machine's tables, for the largest pattern with a search's wrap around it.
-#[derive(Drop)]
+#[derive(Clone, Copy)]
 pub struct Machine {}
 
 impl Machine {
@@ -29,7 +29,7 @@ impl Machine {
 }
 
 // The sizes of the scratch for a machine of few places and levels, as most patterns have: a call that owns its scratch has less to clear.
-#[derive(Drop)]
+#[derive(Clone, Copy)]
 pub struct Small {}
 
 impl Small {
@@ -45,7 +45,7 @@ impl Small {
 }
 
 // What building answers: a refusal of the pattern, or the machine's places and depth and the pattern's groups.
-#[derive(Drop)]
+#[derive(Clone, Copy)]
 pub enum Built {
     Refused {
         number: usize,

@@ -11,7 +11,7 @@ use machine::{Built, Machine};
 use pattern::{Line, Refusal, Spans};
 
 // What a whole match or a search answers. The rows stand in the lent table.
-#[derive(Drop)]
+#[derive(Clone, Copy)]
 pub enum Answer {
     Refused { number: usize, place: usize },
     Match { steps: u32 },

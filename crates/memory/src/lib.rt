@@ -9,7 +9,7 @@ use matcher::Answer;
 use pattern::{Line, Refusal, Spans};
 
 // The memory of a machine.
-#[derive(Drop)]
+#[derive(Clone, Copy)]
 pub struct Memory {}
 
 impl Memory {

@@ -34,7 +34,7 @@ pub struct Ahead {
 }
 
 // The four numbers of a place.
-#[derive(Drop)]
+#[derive(Clone, Copy)]
 pub struct Numbers {
     pub kind: usize,
     pub next: usize,
@@ -43,14 +43,14 @@ pub struct Numbers {
 }
 
 // Where a place leads at once: whether it does, and the floor of the level there.
-#[derive(Drop)]
+#[derive(Clone, Copy)]
 pub struct Onward {
     pub goes: bool,
     pub floor: usize,
 }
 
 // What a place that leads nowhere at once leaves: how many threads are carried, and whether a thread has won.
-#[derive(Drop)]
+#[derive(Clone, Copy)]
 pub struct Settled {
     pub count: usize,
     pub done: bool,

@@ -17,7 +17,7 @@ ghost use Rattle.pattern.specs.Answer.{Checks};
 use walk::Walked;
 
 // The limits of a pattern.
-#[derive(Drop)]
+#[derive(Clone, Copy)]
 pub struct Pattern {}
 
 impl Pattern {
@@ -58,7 +58,7 @@ impl Pattern {
 }
 
 // The limits of a template.
-#[derive(Drop)]
+#[derive(Clone, Copy)]
 pub struct Template {}
 
 impl Template {
@@ -73,7 +73,7 @@ impl Template {
 }
 
 // The limits of a line.
-#[derive(Drop)]
+#[derive(Clone, Copy)]
 pub struct Line {}
 
 impl Line {
@@ -88,7 +88,7 @@ impl Line {
 }
 
 // The shape of a span table.
-#[derive(Drop)]
+#[derive(Clone, Copy)]
 pub struct Spans {}
 
 impl Spans {
@@ -115,7 +115,7 @@ impl Spans {
 }
 
 // The kinds of record.
-#[derive(Drop)]
+#[derive(Clone, Copy)]
 pub struct Kind {}
 
 impl Kind {
@@ -150,7 +150,7 @@ impl Kind {
 }
 
 // The kinds of place, as their numbers stand in a table of places. Those before SET lead on at once; the others do not.
-#[derive(Drop)]
+#[derive(Clone, Copy)]
 pub struct PlaceKind {}
 
 impl PlaceKind {
@@ -197,7 +197,7 @@ impl PlaceKind {
 }
 
 // The refusals by number.
-#[derive(Drop)]
+#[derive(Clone, Copy)]
 pub struct Refusal {}
 
 impl Refusal {
@@ -259,7 +259,7 @@ impl Refusal {
 }
 
 // What checking a pattern answers.
-#[derive(Drop)]
+#[derive(Clone, Copy)]
 pub enum Answer {
     Refused {
         number: usize,

@@ -12,7 +12,7 @@ use records::Header;
 const REPEAT_HEAD: usize = 6;
 
 // What the walk of a record answers.
-#[derive(Drop)]
+#[derive(Clone, Copy)]
 pub enum Walked {
     // the number and the place of the first fault
     Refused(usize, usize),
@@ -26,7 +26,7 @@ pub enum Walked {
 }
 
 // What the walk of the records in a holder answers.
-#[derive(Drop)]
+#[derive(Clone, Copy)]
 pub enum Several {
     // the number and the place of the first fault
     Fault(usize, usize),

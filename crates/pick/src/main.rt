@@ -16,7 +16,7 @@ use std::io::{Stderr, Stdin, Stdout};
 use window::Window;
 
 // How far the job is: the window of the input, how much is gathered for printing, whether it goes on, and whether it is broken.
-#[derive(Drop)]
+#[derive(Clone, Copy)]
 struct Progress {
     window: Window,
     printed: usize,

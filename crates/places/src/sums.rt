@@ -8,7 +8,7 @@ use pattern::{Kind, counts};
 use records::number_at;
 
 // What records that stand one after another add up to. Places are counted up to the pattern's limit, as `pattern` counts them.
-#[derive(Drop)]
+#[derive(Clone, Copy)]
 pub struct Sums {
     pub places: usize,
     pub groups: usize,

@@ -9,7 +9,7 @@ ghost use Rattle.records.specs.Header.{Shows};
 pub const BEFORE_BODY: usize = 4;
 
 // What stands at an offset: a record that is all there, or one that its holder cuts off.
-#[derive(Drop)]
+#[derive(Clone, Copy)]
 pub enum Header {
     Broken,
     // the kind's number, and where the body starts and ends

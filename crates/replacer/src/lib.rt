@@ -14,7 +14,7 @@ use pattern::{Line, Refusal};
 use template::References;
 
 // What replace-all answers: a refusal's number and place, or the output's length, the replacements and the sum of all searches' steps.
-#[derive(Drop)]
+#[derive(Clone, Copy)]
 pub enum Replaced {
     Refused {
         number: usize,

@@ -8,7 +8,7 @@ ghost use Rattle.replacer.specs.Scans.{Turns, Measures};
 use turns::Turn;
 
 // The output's length, the replacements and the sum of all searches' steps.
-#[derive(Drop)]
+#[derive(Clone, Copy)]
 pub struct Measured {
     pub length: usize,
     pub replacements: usize,

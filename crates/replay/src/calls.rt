@@ -328,7 +328,7 @@ fn kept(buffer: &[u8], from: usize) -> bool {
 }
 
 // Where the bytes of a buffer must be as they were: behind the output, or all of them.
-fn written(answer: &replacer::Replaced) -> usize {
+fn written(answer: replacer::Replaced) -> usize {
     match answer {
         replacer::Replaced::Refused {
             number: _,
@@ -338,7 +338,7 @@ fn written(answer: &replacer::Replaced) -> usize {
             length,
             replacements: _,
             steps: _,
-        } => *length,
+        } => length,
     }
 }
 
@@ -367,9 +367,8 @@ fn replace_at(
     fill(buffer);
     let answer = replacer::replace_all(bytes, parts, line, buffer);
     let mut n = case(to, out, at, query);
-    let same = kept(buffer, written(&answer));
     n = replaced(to, out, n, answer, buffer);
-    n = print_kept(to, out, n, same);
+    n = print_kept(to, out, n, kept(buffer, written(answer)));
     end_line(to, out, n)
 }
 

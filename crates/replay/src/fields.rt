@@ -2,7 +2,7 @@
 ghost use Rattle.std.specs.Prelude.{◌≤◌, ◌<◌, ◌+◌, ◌*◌, ◌-◌, length, ◌≡◌};
 
 // A field that was read: whether it is one, where the query goes on behind it, and how far the bytes that it stands for reach.
-#[derive(Drop)]
+#[derive(Clone, Copy)]
 pub struct Field {
     pub whole: bool,
     pub next: usize,
@@ -10,7 +10,7 @@ pub struct Field {
 }
 
 // A number that was read: whether it is one, where the query goes on behind it, and its value.
-#[derive(Drop)]
+#[derive(Clone, Copy)]
 pub struct Number {
     pub whole: bool,
     pub next: usize,
@@ -166,7 +166,7 @@ pub fn ended(query: &[u8], whole: bool, next: usize) -> bool {
 }
 
 // Two fields one after the other, their bytes from 0 to one and from one to two.
-#[derive(Drop)]
+#[derive(Clone, Copy)]
 pub struct Two {
     pub whole: bool,
     pub next: usize,
@@ -175,7 +175,7 @@ pub struct Two {
 }
 
 // Three fields, likewise.
-#[derive(Drop)]
+#[derive(Clone, Copy)]
 pub struct Three {
     pub whole: bool,
     pub next: usize,
@@ -232,7 +232,7 @@ pub fn number_after(query: &[u8], at: usize) -> Number
 }
 
 // Three fields and a number behind them, to the query's end.
-#[derive(Drop)]
+#[derive(Clone, Copy)]
 pub struct Case {
     pub whole: bool,
     pub one: usize,

@@ -7,7 +7,7 @@ use pattern::Spans;
 use std::io::Stdout;
 
 // How far the lines of a job are printed.
-#[derive(Drop)]
+#[derive(Clone, Copy)]
 struct Step {
     next: usize,
     printed: usize,

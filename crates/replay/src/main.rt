@@ -38,7 +38,7 @@ const PIECE: usize = 7;
 const REPLACE: usize = 8;
 
 // How much of a line is kept, whether more of it came than can be, and how much is gathered for printing.
-#[derive(Drop)]
+#[derive(Clone, Copy)]
 struct Progress {
     filled: usize,
     cut: bool,
@@ -46,7 +46,7 @@ struct Progress {
 }
 
 // What one reading of the input came to: whether another follows, whether it failed, and how far the lines are.
-#[derive(Drop)]
+#[derive(Clone, Copy)]
 struct Turn {
     goes: bool,
     failed: bool,

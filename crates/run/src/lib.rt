@@ -11,7 +11,7 @@ use pattern::Spans;
 use visit::Visited;
 
 // How the machine stopped, with the steps made and, where it matched, the winner's rows.
-#[derive(Drop)]
+#[derive(Clone, Copy)]
 pub struct Ran {
     pub matched: bool,
     pub steps: u32,

@@ -11,7 +11,7 @@ ghost use Rattle.replacer.specs.Answer as replaced;
 ghost use Rattle.telling.specs.Told.{Numbered, Tells, check_numbers, found_numbers, span_numbers, replaced_numbers, built_numbers};
 
 // The status of an answer, which is no refusal's number.
-#[derive(Drop)]
+#[derive(Clone, Copy)]
 struct Status {}
 
 impl Status {

@@ -19,7 +19,7 @@ const LITERAL: usize = 32;
 const REFERENCE: usize = 33;
 
 // What stands at an offset of a template.
-#[derive(Drop)]
+#[derive(Clone, Copy)]
 pub enum Record {
     // No record of a template.
     Wrong,
@@ -30,14 +30,14 @@ pub enum Record {
 }
 
 // How many records a template has, or where it is wrong.
-#[derive(Drop)]
+#[derive(Clone, Copy)]
 pub enum Counted {
     Wrong(usize),
     Records(usize),
 }
 
 // Where a template is wrong, or where its first reference above the groups stands, or that there is none.
-#[derive(Drop)]
+#[derive(Clone, Copy)]
 pub enum References {
     Wrong(usize),
     TooHigh(usize),
@@ -45,7 +45,7 @@ pub enum References {
 }
 
 // What a piece is: a refusal's number and place, or a start and an end in the template or in the line.
-#[derive(Drop)]
+#[derive(Clone, Copy)]
 pub enum Answer {
     Refused { number: usize, place: usize },
     Template { start: usize, end: usize },

@@ -10,7 +10,7 @@ use moves::Ahead;
 use pattern::Spans;
 
 // What a visit leaves: how many threads are carried, the steps so far, and whether a thread has won.
-#[derive(Drop)]
+#[derive(Clone, Copy)]
 pub struct Visited {
     pub count: usize,
     pub steps: u32,
