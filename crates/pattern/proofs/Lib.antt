@@ -3,5 +3,6 @@ pub mod Counting
 pub mod Pairs
 pub mod Walking
 pub mod Turning
+pub mod Refusing
 pub mod Answering
 pub mod Impostors
