@@ -22,7 +22,7 @@ use Rattle.pattern.specs.declared.walk.Walked.{Walked}
 use Rattle.pattern.specs.Refusals.{number_of}
 use Rattle.pattern.specs.Walk.{capped, Counts}
 use Rattle.pattern.specs.Answer.{in_words, answer_of, Checks}
-use Rattle.pattern.proofs.Refusing.{answers_differ}
+use Rattle.pattern.proofs.Differing.{checked_differ}
 
 -- the check from what the walk found
 abbrev judged : List ℕ → Checked Pattern → Checked Numbers
@@ -129,4 +129,4 @@ same_numbers a b e =
 
 -- the promise allows one answer
 pub one_answer : {bs : List ℕ} {a b : Result declared.Numbers Refused} → Checks bs a → Checks bs b → a ≡ b
-one_answer {bs} {a} {b} p q = answers_differ in_words same_numbers a b (p.answer ∙ sym q.answer)
+one_answer {bs} {a} {b} p q = checked_differ in_words same_numbers a b (p.answer ∙ sym q.answer)

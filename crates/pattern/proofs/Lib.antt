@@ -4,6 +4,5 @@ pub mod Counting
 pub mod Pairs
 pub mod Walking
 pub mod Turning
-pub mod Refusing
 pub mod Answering
 pub mod Impostors

@@ -3,7 +3,7 @@ ghost use Rattle.std.specs.Prelude.{◌≤◌, ◌<◌, length};
 ghost use Rattle.printer.specs.Gathered.{Gathered};
 
 use crate::{fields, jobs};
-use pattern::Spans;
+use pattern::{Numbers, Refused, Spans};
 use std::io::Stdout;
 
 // What a line that is no case is answered by.
@@ -36,23 +36,23 @@ fn number(to: Stdout, out: &mut [u8], at: usize, n: usize) -> usize
 }
 
 // What checking answers.
-fn checked(to: Stdout, out: &mut [u8], at: usize, answer: pattern::Answer) -> usize
+fn checked(to: Stdout, out: &mut [u8], at: usize, answer: Result<Numbers, Refused>) -> usize
     ensures { Gathered at result }
 {
     match answer {
-        pattern::Answer::Refused {
-            number: refused,
-            place,
-        } => printer::refusal(to, out, at, refused, place, false),
-        pattern::Answer::Accepted {
-            places,
-            depth,
-            groups,
-        } => {
+        Err(refused) => printer::refusal(
+            to,
+            out,
+            at,
+            refused.refusal.number(),
+            refused.place,
+            false,
+        ),
+        Ok(numbers) => {
             let mut n = printer::bytes(to, out, at, b"ok", false);
-            n = number(to, out, n, places);
-            n = number(to, out, n, depth);
-            number(to, out, n, groups)
+            n = number(to, out, n, numbers.places);
+            n = number(to, out, n, numbers.depth);
+            number(to, out, n, numbers.groups)
         }
     }
 }
@@ -81,15 +81,8 @@ pub fn check(
 // How many groups a pattern has, for printing its rows.
 fn groups_of(bytes: &[u8]) -> usize {
     match pattern::check(bytes) {
-        pattern::Answer::Refused {
-            number: _,
-            place: _,
-        } => 0,
-        pattern::Answer::Accepted {
-            places: _,
-            depth: _,
-            groups,
-        } => groups,
+        Err(_) => 0,
+        Ok(numbers) => numbers.groups,
     }
 }
 

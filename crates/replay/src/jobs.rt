@@ -125,16 +125,25 @@ fn with_pattern(
     requires { from ≤ length bytes.now }
 {
     match pattern::check(body) {
-        pattern::Answer::Refused { number, place } => job::print_refused(
-            to, out, at, number, place, true,
+        Err(refused) => job::print_refused(
+            to,
+            out,
+            at,
+            refused.refusal.number(),
+            refused.place,
+            true,
         ),
-        pattern::Answer::Accepted {
-            places,
-            depth,
-            groups,
-        } => {
-            let n = job::print_numbers(to, out, at, places, depth, groups, true);
-            all_lines(bytes, from, body, groups, to, out, n)
+        Ok(numbers) => {
+            let n = job::print_numbers(
+                to,
+                out,
+                at,
+                numbers.places,
+                numbers.depth,
+                numbers.groups,
+                true,
+            );
+            all_lines(bytes, from, body, numbers.groups, to, out, n)
         }
     }
 }
