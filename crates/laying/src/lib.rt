@@ -4,25 +4,63 @@
 
 mod copies;
 pub mod repeats;
+mod table;
 
-ghost use Rattle.std.specs.Prelude.{◌≡◌, ◌≤◌, length};
+ghost use Rattle.std.specs.Prelude.{◌≡◌};
+ghost use Rattle.paper.specs.Tables.{fork_place};
 ghost use Rattle.laying.specs.Laid.{entry_of};
-ghost use Rattle.laying.specs.Room.{table_room};
+ghost use Rattle.laying.specs.Places.{four_numbers};
+ghost use Rattle.laying.specs.Lent.{Writes};
 ghost use Rattle.laying.specs.Single.{Fitting, Put, Forked, Ranged, RangedLaid, Star, StarLaid};
 
 use pattern::{Pattern, PlaceKind};
-use records::wide;
+pub use table::Table;
 
-// Writes a place's four numbers.
-pub fn put(table: &mut [u16], x: usize, kind: u16, next: usize, a: usize, n: usize)
-    requires { Fitting table.old x next a n }
-    ensures { Put table.old x kind next a n table.new }
-{
-    let b = PlaceKind::NUMBERS * x;
-    table[b] = kind;
-    table[b + 1] = next as u16;
-    table[b + 2] = a as u16;
-    table[b + 3] = n as u16;
+// The four numbers of a place: its kind, its follower, and two that its kind gives a meaning.
+#[derive(Clone, Copy)]
+pub struct Place {
+    pub kind: u16,
+    pub next: usize,
+    pub a: usize,
+    pub n: usize,
+}
+
+impl Place {
+    // A place of a kind whose one number is its follower.
+    pub fn plain(kind: u16, next: usize) -> Place
+        ensures { result ≡ four_numbers kind next 0 0 }
+    {
+        Place {
+            kind,
+            next,
+            a: 0,
+            n: 0,
+        }
+    }
+
+    // A fork: the follower that it prefers, and the other.
+    pub fn fork(preferred: usize, other: usize) -> Place
+        ensures { result ≡ four_numbers fork_place preferred other 0 }
+    {
+        Place {
+            kind: PlaceKind::FORK,
+            next: preferred,
+            a: other,
+            n: 0,
+        }
+    }
+
+    // Writes the four numbers.
+    pub fn write(self, numbers: &mut [u16], x: usize)
+        requires { Fitting numbers.old x self.next self.a self.n }
+        ensures { Put numbers.old x self.kind self.next self.a self.n numbers.new }
+    {
+        let b = PlaceKind::NUMBERS * x;
+        numbers[b] = self.kind;
+        numbers[b + 1] = self.next as u16;
+        numbers[b + 2] = self.a as u16;
+        numbers[b + 3] = self.n as u16;
+    }
 }
 
 // Where an expression of so many places is entered: at its first, or at what follows it where it has none.
@@ -32,49 +70,56 @@ pub fn entered(places: usize, base: usize, next: usize) -> usize
     if places == 0 { next } else { base }
 }
 
-// The place of a set: a single range stands in the place's own numbers, so that a step reads no pattern; more are found by their offset.
-pub fn set_place(
-    pattern: &[u8],
-    table: &mut [u16],
-    start: usize,
-    stop: usize,
-    base: usize,
-    next: usize,
-)
-    requires ranged { Ranged pattern.now start stop base next }
-    requires room { table_room ≤ length table.old }
-    ensures { RangedLaid pattern.now start stop base next table.old table.new }
-{
-    if stop - start == 2 {
-        let low = wide(pattern[start]);
-        let high = wide(pattern[start + 1]);
-        put(table, base, PlaceKind::RANGE, next, low, high);
-    } else {
-        put(table, base, PlaceKind::SET, next, start, (stop - start) / 2);
-    }
-}
-
 // The fork before an optional pass: greedy prefers the pass, lazy what follows.
-fn pass_fork(table: &mut [u16], x: usize, mode: usize, pass: usize, out: usize)
-    requires { Fitting table.old x pass out 0 }
-    ensures { Forked table.old x mode pass out table.new }
+fn pass_fork(numbers: &mut [u16], x: usize, mode: usize, pass: usize, out: usize)
+    requires { Fitting numbers.old x pass out 0 }
+    ensures { Forked numbers.old x mode pass out numbers.new }
 {
     if mode == Pattern::GREEDY {
-        put(table, x, PlaceKind::FORK, pass, out, 0);
+        Place::fork(pass, out).write(numbers, x);
     } else {
-        put(table, x, PlaceKind::FORK, out, pass, 0);
+        Place::fork(out, pass).write(numbers, x);
     }
 }
 
-// The four places of a repeat without an upper end over any byte, as a search has before and behind its pattern.
-pub fn any_star(table: &mut [u16], base: usize, mode: usize, next: usize, first: usize)
-    requires { Star table.old base next first }
-    ensures { StarLaid base mode next first table.old table.new }
-{
-    let inside = base + 1 + 1;
-    let end = inside + 1;
-    pass_fork(table, base, mode, base + 1, next);
-    put(table, base + 1, PlaceKind::BEGIN_OPTIONAL, inside, first, 0);
-    put(table, inside, PlaceKind::RANGE, end, 0, 255);
-    put(table, end, PlaceKind::END, base, 0, 0);
+impl Table<'_> {
+    // The place of a set: a single range stands in the place's own numbers, so that a step reads no pattern; more are found by their offset.
+    pub fn set_place(&mut self, pattern: &[u8], start: usize, stop: usize, base: usize, next: usize)
+        requires { Ranged pattern.now start stop base next }
+        ensures { Writes (RangedLaid pattern.now start stop base next) self.old self.new }
+    {
+        let (kind, a, n) = if stop - start == 2 {
+            let low = usize::from(pattern[start]);
+            let high = usize::from(pattern[start + 1]);
+            (PlaceKind::RANGE, low, high)
+        } else {
+            (PlaceKind::SET, start, (stop - start) / 2)
+        };
+        Place { kind, next, a, n }.write(self.numbers, base);
+    }
+
+    // The four places of a repeat without an upper end over any byte, as a search has before and behind its pattern.
+    pub fn any_star(&mut self, base: usize, mode: usize, next: usize, first: usize)
+        requires { Star self.old.numbers.now base next first }
+        ensures { Writes (StarLaid base mode next first) self.old self.new }
+    {
+        let inside = base + 1 + 1;
+        let end = inside + 1;
+        let begin = Place {
+            kind: PlaceKind::BEGIN_OPTIONAL,
+            next: inside,
+            a: first,
+            n: 0,
+        };
+        let range = Place {
+            kind: PlaceKind::RANGE,
+            next: end,
+            a: 0,
+            n: 255,
+        };
+        pass_fork(self.numbers, base, mode, base + 1, next);
+        begin.write(self.numbers, base + 1);
+        range.write(self.numbers, inside);
+        Place::plain(PlaceKind::END, base).write(self.numbers, end);
+    }
 }

@@ -9,9 +9,9 @@ ghost use Rattle.std.specs.Prelude.{◌≤◌, length};
 ghost use Rattle.laying.specs.Room.{table_room};
 ghost use Rattle.places.specs.Built.{Accepted, BuiltMatch, BuiltSearch};
 
-use laying::{any_star, put};
+use laying::{Place, Table};
 use pattern::{Pattern, PlaceKind};
-use walk::{Part, headed, one};
+use walk::Part;
 
 // Builds an accepted pattern's places for a whole match, and answers how many they are. Checking has told the pattern's own places and its groups.
 pub fn build_match(pattern: &[u8], table: &mut [u16], places: usize, groups: usize) -> usize
@@ -19,15 +19,19 @@ pub fn build_match(pattern: &[u8], table: &mut [u16], places: usize, groups: usi
     requires room { table_room ≤ length table.old }
     ensures { BuiltMatch pattern.now table.old table.new result }
 {
-    let part = Part {
+    let mut lent = Table { numbers: table };
+    let whole = Part {
+        pattern,
         at: 0,
         stop: pattern.len(),
         first: 1,
         places,
         groups,
+        base: 0,
+        next: places,
     };
-    one(pattern, table, part, 0, places);
-    put(table, places, PlaceKind::ACCEPT, 0, 0, 0);
+    whole.one(&mut lent);
+    Place::plain(PlaceKind::ACCEPT, 0).write(lent.numbers, places);
     places + 1
 }
 
@@ -39,17 +43,22 @@ pub fn build_search(pattern: &[u8], table: &mut [u16], places: usize, groups: us
 {
     let close = 5 + places;
     let second = close + 1;
-    any_star(table, 0, Pattern::LAZY, 4, 0);
-    let part = Part {
+    let end = second + 4;
+    let whole = Part {
+        pattern,
         at: 0,
         stop: pattern.len(),
         first: 1,
         places,
         groups,
+        base: 4,
+        next: close,
     };
-    headed(pattern, table, part, PlaceKind::OPEN, 0, 0, 4, close);
-    put(table, close, PlaceKind::CLOSE, second, 0, 0);
-    any_star(table, second, Pattern::GREEDY, second + 4, groups + 1);
-    put(table, second + 4, PlaceKind::ACCEPT, 0, 0, 0);
-    second + 5
+    let mut lent = Table { numbers: table };
+    lent.any_star(0, Pattern::LAZY, 4, 0);
+    whole.headed(&mut lent, PlaceKind::OPEN, 0, 0);
+    Place::plain(PlaceKind::CLOSE, second).write(lent.numbers, close);
+    lent.any_star(second, Pattern::GREEDY, end, groups + 1);
+    Place::plain(PlaceKind::ACCEPT, 0).write(lent.numbers, end);
+    end + 1
 }
