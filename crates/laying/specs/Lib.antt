@@ -2,7 +2,7 @@
 pub mod Room
 pub mod Laid
 pub mod Lent
-pub mod Places
 pub mod Single
+pub mod Places
 pub mod Copies
 pub mod Repeats

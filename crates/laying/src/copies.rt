@@ -39,7 +39,7 @@ impl Shift {
         requires small { a ≤ most_number }
         ensures { (result ≡ moved_other self.from self.count self.to self.next kind a) × (result ≤ most_number) }
     {
-        if kind == PlaceKind::FORK {
+        if kind == PlaceKind::Fork as u16 {
             self.moved(a)
         } else {
             a
@@ -57,7 +57,7 @@ impl Shift {
         let next = self.moved(usize::from(table.numbers[b + 1]));
         let a = self.moved_other(kind, usize::from(table.numbers[b + 2]));
         let n = usize::from(table.numbers[b + 3]);
-        Place { kind, next, a, n }.write(table.numbers, self.to + k);
+        table.put(self.to + k, Place { kind, next, a, n });
     }
 
     // Copies places, their followers moved. The copy may stand where they do: then only what follows them changes.

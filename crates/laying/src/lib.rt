@@ -9,7 +9,7 @@ mod table;
 ghost use Rattle.std.specs.Prelude.{◌≡◌};
 ghost use Rattle.paper.specs.Tables.{fork_place};
 ghost use Rattle.laying.specs.Laid.{entry_of};
-ghost use Rattle.laying.specs.Places.{four_numbers};
+ghost use Rattle.laying.specs.Places.{four_numbers, Fits, Puts};
 ghost use Rattle.laying.specs.Lent.{Writes};
 ghost use Rattle.laying.specs.Single.{Fitting, Put, Forked, Ranged, RangedLaid, Star, StarLaid};
 
@@ -43,7 +43,7 @@ impl Place {
         ensures { result ≡ four_numbers fork_place preferred other 0 }
     {
         Place {
-            kind: PlaceKind::FORK,
+            kind: PlaceKind::Fork as u16,
             next: preferred,
             a: other,
             n: 0,
@@ -70,19 +70,27 @@ pub fn entered(places: usize, base: usize, next: usize) -> usize
     if places == 0 { next } else { base }
 }
 
-// The fork before an optional pass: greedy prefers the pass, lazy what follows.
-fn pass_fork(numbers: &mut [u16], x: usize, mode: usize, pass: usize, out: usize)
-    requires { Fitting numbers.old x pass out 0 }
-    ensures { Forked numbers.old x mode pass out numbers.new }
-{
-    if mode == Pattern::GREEDY {
-        Place::fork(pass, out).write(numbers, x);
-    } else {
-        Place::fork(out, pass).write(numbers, x);
-    }
-}
-
 impl Table<'_> {
+    // Lays a place.
+    pub fn put(&mut self, x: usize, place: Place)
+        requires { Fits x place self.old.numbers.now }
+        ensures { Writes (Puts x place) self.old self.new }
+    {
+        place.write(self.numbers, x);
+    }
+
+    // The fork before an optional pass: greedy prefers the pass, lazy what follows.
+    fn pass_fork(&mut self, x: usize, mode: usize, pass: usize, out: usize)
+        requires { Fitting self.old.numbers.now x pass out 0 }
+        ensures { Writes (λ before after. Forked before x mode pass out after) self.old self.new }
+    {
+        if mode == Pattern::GREEDY {
+            self.put(x, Place::fork(pass, out));
+        } else {
+            self.put(x, Place::fork(out, pass));
+        }
+    }
+
     // The place of a set: a single range stands in the place's own numbers, so that a step reads no pattern; more are found by their offset.
     pub fn set_place(&mut self, pattern: &[u8], start: usize, stop: usize, base: usize, next: usize)
         requires { Ranged pattern.now start stop base next }
@@ -91,11 +99,11 @@ impl Table<'_> {
         let (kind, a, n) = if stop - start == 2 {
             let low = usize::from(pattern[start]);
             let high = usize::from(pattern[start + 1]);
-            (PlaceKind::RANGE, low, high)
+            (PlaceKind::Range as u16, low, high)
         } else {
-            (PlaceKind::SET, start, (stop - start) / 2)
+            (PlaceKind::Set as u16, start, (stop - start) / 2)
         };
-        Place { kind, next, a, n }.write(self.numbers, base);
+        self.put(base, Place { kind, next, a, n });
     }
 
     // The four places of a repeat without an upper end over any byte, as a search has before and behind its pattern.
@@ -106,20 +114,20 @@ impl Table<'_> {
         let inside = base + 1 + 1;
         let end = inside + 1;
         let begin = Place {
-            kind: PlaceKind::BEGIN_OPTIONAL,
+            kind: PlaceKind::BeginOptional as u16,
             next: inside,
             a: first,
             n: 0,
         };
         let range = Place {
-            kind: PlaceKind::RANGE,
+            kind: PlaceKind::Range as u16,
             next: end,
             a: 0,
             n: 255,
         };
-        pass_fork(self.numbers, base, mode, base + 1, next);
-        begin.write(self.numbers, base + 1);
-        range.write(self.numbers, inside);
-        Place::plain(PlaceKind::END, base).write(self.numbers, end);
+        self.pass_fork(base, mode, base + 1, next);
+        self.put(base + 1, begin);
+        self.put(inside, range);
+        self.put(end, Place::plain(PlaceKind::End as u16, base));
     }
 }

@@ -6,7 +6,7 @@ ghost use Rattle.laying.specs.Room.{most_places};
 ghost use Rattle.laying.specs.Repeats.{inner_start, Begun, BegunLaid, PassesAsked, PassesMade, PassesToMake, Passed, PassedInside};
 
 use crate::copies::Shift;
-use crate::{Place, Table, entered, pass_fork};
+use crate::{Place, Table, entered};
 use pattern::PlaceKind;
 
 // What every pass of a repeat has: where the inner part that it copies stands, its places, its first group and how many groups the pass clears.
@@ -63,7 +63,7 @@ impl Pass {
             a: self.first,
             n: self.groups,
         };
-        begin.write(table.numbers, base);
+        table.put(base, begin);
         // The part that the others copy may stand here already, and lead where it should.
         if self.model != to || next != to + count {
             Shift {
@@ -98,7 +98,7 @@ impl Passes {
         for left in (0..self.must).rev() {
             let after = from + 1 + self.pass.places;
             let out = entered(left + self.may, after, self.next);
-            self.pass.begun(table, PlaceKind::BEGIN, from, out);
+            self.pass.begun(table, PlaceKind::Begin as u16, from, out);
             from = after;
         }
         from
@@ -116,10 +116,10 @@ impl Passes {
             let end = begin + 1 + self.pass.places;
             let after = end + 1;
             let out = self.pass_end(left, from, after);
-            pass_fork(table.numbers, from, self.mode, begin, self.next);
+            table.pass_fork(from, self.mode, begin, self.next);
             self.pass
-                .begun(table, PlaceKind::BEGIN_OPTIONAL, begin, end);
-            Place::plain(PlaceKind::END, out).write(table.numbers, end);
+                .begun(table, PlaceKind::BeginOptional as u16, begin, end);
+            table.put(end, Place::plain(PlaceKind::End as u16, out));
             from = after;
         }
     }

@@ -31,7 +31,7 @@ pub fn build_match(pattern: &[u8], table: &mut [u16], places: usize, groups: usi
         next: places,
     };
     whole.one(&mut lent);
-    Place::plain(PlaceKind::ACCEPT, 0).write(lent.numbers, places);
+    lent.put(places, Place::plain(PlaceKind::Accept as u16, 0));
     places + 1
 }
 
@@ -56,9 +56,9 @@ pub fn build_search(pattern: &[u8], table: &mut [u16], places: usize, groups: us
     };
     let mut lent = Table { numbers: table };
     lent.any_star(0, Pattern::LAZY, 4, 0);
-    whole.headed(&mut lent, PlaceKind::OPEN, 0, 0);
-    Place::plain(PlaceKind::CLOSE, second).write(lent.numbers, close);
+    whole.headed(&mut lent, PlaceKind::Open as u16, 0, 0);
+    lent.put(close, Place::plain(PlaceKind::Close as u16, second));
     lent.any_star(second, Pattern::GREEDY, end, groups + 1);
-    Place::plain(PlaceKind::ACCEPT, 0).write(lent.numbers, end);
+    lent.put(end, Place::plain(PlaceKind::Accept as u16, 0));
     end + 1
 }

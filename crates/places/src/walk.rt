@@ -6,7 +6,7 @@ ghost use Rattle.laying.specs.Lent.{Writes};
 ghost use Rattle.laying.specs.Single.{Head};
 ghost use Rattle.places.specs.Walk.{Joining, Joined, OneAsked, OneMade, HeadAsked, HeadMade, RowAsked, RowMade, RepeatAsked, RepeatMade};
 
-use crate::sums::alone;
+use crate::sums::{alone, known_kind};
 use laying::repeats::{Pass, Passes, inner_places, inner_start};
 use laying::{Place, Table, entered};
 use pattern::{Kind, Pattern, PlaceKind, counts};
@@ -45,7 +45,7 @@ impl Part<'_> {
     {
         let base = self.base + 1;
         let next = entered(self.places, base, self.next);
-        Place { kind, next, a, n }.write(table.numbers, self.base);
+        table.put(self.base, Place { kind, next, a, n });
         Part { base, ..self }.one(table);
     }
 
@@ -98,17 +98,15 @@ impl Part<'_> {
             return;
         }
         let start = self.at + 4;
-        let kind = number_at(self.pattern, self.at + 2);
-        if kind == Kind::NOTHING {
-            Place::plain(PlaceKind::STOP, 0).write(table.numbers, self.base);
-        } else if kind == Kind::BYTES {
-            table.set_place(self.pattern, start, self.stop, self.base, self.next);
-        } else if kind == Kind::GROUP {
-            self.group(table);
-        } else if kind == Kind::REPEAT {
-            self.repeated(table);
-        } else {
-            Part { at: start, ..self }.row(table, kind == Kind::ALTERNATION);
+        let inner = Part { at: start, ..self };
+        match known_kind(self.pattern, self.at) {
+            Kind::Nothing => table.put(self.base, Place::plain(PlaceKind::Stop as u16, 0)),
+            Kind::Empty => {}
+            Kind::Bytes => table.set_place(self.pattern, start, self.stop, self.base, self.next),
+            Kind::Group => self.group(table),
+            Kind::Sequence => inner.row(table, false),
+            Kind::Alternation => inner.row(table, true),
+            Kind::Repeat => self.repeated(table),
         }
     }
 
@@ -129,26 +127,33 @@ impl Part<'_> {
             next: close,
             ..self
         };
-        inner.headed(table, PlaceKind::OPEN, self.first, 0);
-        Place {
-            kind: PlaceKind::CLOSE,
+        inner.headed(table, PlaceKind::Open as u16, self.first, 0);
+        let end = Place {
+            kind: PlaceKind::Close as u16,
             next: self.next,
             a: self.first,
             n: 0,
-        }
-        .write(table.numbers, close);
+        };
+        table.put(close, end);
     }
 
     // Where a record of so many places leads that others follow, `rest` places from `second` on: in a sequence to the next that has places,
     // in an alternation to what follows the row, and then a fork stands before the record.
-    fn joined(self, table: &mut Table, forks: bool, places: usize, second: usize, rest: usize) -> usize
+    fn joined(
+        self,
+        table: &mut Table,
+        forks: bool,
+        places: usize,
+        second: usize,
+        rest: usize,
+    ) -> usize
         requires { Joining forks self.base second self.next }
-        ensures { Writes (Joined forks self.base places second rest self.next result) table.old table.new }
+        ensures { Writes (Joined forks self.entry.base places second rest self.entry.next result) table.old table.new }
     {
         let other = entered(rest, second, self.next);
         if forks {
             let preferred = entered(places, self.base + 1, self.next);
-            Place::fork(preferred, other).write(table.numbers, self.base);
+            table.put(self.base, Place::fork(preferred, other));
             self.next
         } else {
             other
@@ -163,20 +168,22 @@ impl Part<'_> {
     {
         let head = usize::from(forks);
         let mut left = self;
-        let mut end = record_end(left.pattern, left.at);
-        while end != left.stop {
-            let own = alone(left.pattern, left.at, end);
+        let mut end = record_end(self.pattern, self.at);
+        while end != self.stop {
+            let own = alone(self.pattern, left.at, end);
             let base = left.base + head;
             let second = base + own.places;
             let rest = left.places - head - own.places;
             let next = left.joined(table, forks, own.places, second, rest);
             let one = Part {
+                at: left.at,
                 stop: end,
+                first: left.first,
                 places: own.places,
                 groups: own.groups,
                 base,
                 next,
-                ..left
+                ..self
             };
             one.one(table);
             left = Part {
@@ -187,7 +194,7 @@ impl Part<'_> {
                 base: second,
                 ..left
             };
-            end = record_end(left.pattern, end);
+            end = record_end(self.pattern, end);
         }
         left.one(table);
     }
