@@ -7,7 +7,6 @@ ghost use Rattle.job.specs.Comes.{comes, pattern_record, line_record, body_bytes
 
 use pattern::Spans;
 use printer::Printer;
-use records::Header;
 
 // The kinds of a job's records, and the greatest length of a body.
 #[derive(Clone, Copy)]
@@ -40,21 +39,26 @@ pub struct Body {
 pub struct Broken {}
 
 // The body of the record at an offset, which has to be whole and of the kind; at the job's end there is none.
-pub fn next_record(bytes: &[u8], at: usize, stop: usize, kind: usize) -> Result<Option<Body>, Broken>
+pub fn next_record(
+    bytes: &[u8],
+    at: usize,
+    stop: usize,
+    kind: usize,
+) -> Result<Option<Body>, Broken>
     requires { (at ≤ stop) × (stop ≤ length bytes.now) }
     ensures { result ≡ comes bytes.now at stop kind }
 {
     if at == stop {
         return Ok(None);
     }
-    match records::header_at(bytes, at, stop) {
-        Header::Record {
-            kind: found,
-            start,
-            end,
-        } if found == kind && end - start <= Job::BODY => Ok(Some(Body { start, end })),
-        _ => Err(Broken {}),
+    let header = records::header_at(bytes, at, stop).ok_or(Broken {})?;
+    if header.kind != kind || Job::BODY < header.end - header.start {
+        return Err(Broken {});
     }
+    Ok(Some(Body {
+        start: header.start,
+        end: header.end,
+    }))
 }
 
 // The pattern's numbers.

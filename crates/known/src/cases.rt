@@ -102,13 +102,17 @@ static CASES: [Case; 15] = [
         title: b"14. ([A-Za-z]+) ([A-Za-z]+) by \"$2, $1\" in \"Don Knuth; Alan Turing\"",
         pattern: b"2\0\x04\0\x12\0\x03\0\x0e\0\x06\0\x01\0\xff\xff\0\0\x04\0\x02\0AZaz\x02\0\x02\0  \x12\0\x03\0\x0e\0\x06\0\x01\0\xff\xff\0\0\x04\0\x02\0AZaz",
         line: b"Don Knuth; Alan Turing",
-        call: Call::Replace { template: b"\x02\0!\0\x02\0\x02\0 \0, \x02\0!\0\x01\0" },
+        call: Call::Replace {
+            template: b"\x02\0!\0\x02\0\x02\0 \0, \x02\0!\0\x01\0",
+        },
     },
     Case {
         title: b"15. b* by \"-\" in \"abc\"",
         pattern: b"\x0c\0\x06\0\0\0\xff\xff\0\0\x02\0\x02\0bb",
         line: b"abc",
-        call: Call::Replace { template: b"\x01\0 \0-" },
+        call: Call::Replace {
+            template: b"\x01\0 \0-",
+        },
     },
 ];
 

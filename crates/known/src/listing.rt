@@ -6,6 +6,24 @@ use crate::words::labelled;
 use pattern::PlaceKind;
 use printer::Printer;
 
+const FORK: u16 = PlaceKind::Fork as u16;
+
+const OPEN: u16 = PlaceKind::Open as u16;
+
+const CLOSE: u16 = PlaceKind::Close as u16;
+
+const BEGIN: u16 = PlaceKind::Begin as u16;
+
+const BEGIN_OPTIONAL: u16 = PlaceKind::BeginOptional as u16;
+
+const END: u16 = PlaceKind::End as u16;
+
+const SET: u16 = PlaceKind::Set as u16;
+
+const STOP: u16 = PlaceKind::Stop as u16;
+
+const ACCEPT: u16 = PlaceKind::Accept as u16;
+
 // The four numbers of a place.
 #[derive(Clone, Copy)]
 struct Place {
@@ -98,12 +116,12 @@ impl Place {
         ensures { Gathered p.old p.new }
     {
         match self.kind {
-            PlaceKind::OPEN => labelled(p, b"open ", u64::from(self.a)),
-            PlaceKind::CLOSE => labelled(p, b"close ", u64::from(self.a)),
-            PlaceKind::BEGIN => begin(p, b"begin", self.a, self.many),
-            PlaceKind::BEGIN_OPTIONAL => begin(p, b"begin optional", self.a, self.many),
-            PlaceKind::END => p.bytes(b"end"),
-            PlaceKind::SET => set(p, pattern, self.a, self.many),
+            OPEN => labelled(p, b"open ", u64::from(self.a)),
+            CLOSE => labelled(p, b"close ", u64::from(self.a)),
+            BEGIN => begin(p, b"begin", self.a, self.many),
+            BEGIN_OPTIONAL => begin(p, b"begin optional", self.a, self.many),
+            END => p.bytes(b"end"),
+            SET => set(p, pattern, self.a, self.many),
             _ => single(p, self.a, self.many),
         }
     }
@@ -113,12 +131,12 @@ impl Place {
         ensures { Gathered p.old p.new }
     {
         match self.kind {
-            PlaceKind::FORK => {
+            FORK => {
                 labelled(p, b"fork, prefers ", u64::from(self.next));
                 labelled(p, b", else ", u64::from(self.a));
             }
-            PlaceKind::STOP => p.bytes(b"stop"),
-            PlaceKind::ACCEPT => p.bytes(b"accept"),
+            STOP => p.bytes(b"stop"),
+            ACCEPT => p.bytes(b"accept"),
             _ => {
                 self.action(p, pattern);
                 labelled(p, b", then ", u64::from(self.next));

@@ -19,8 +19,10 @@ use Rattle.paper.specs.Replace.{moved_by, moved, moved_stopped}
 use Rattle.paper.proofs.machine.MachineReads.{machine_matches, machine_searches}
 use Rattle.paper.proofs.machine.MovedMachine.{steps_moved, rows_moved, machine_moved}
 use Rattle.visit.specs.Wired.{Wired}
-use Rattle.run.specs.Steps.{Running, stopped_as, Runs}
-use Rattle.machine.specs.Machine.{wrapped, first_group, Ready, lists_numbers, pending_numbers, RunsFrom, Gives, OrNone}
+use Rattle.std.specs.Prelude.{Option as Rust_option}
+use Rattle.run.specs.Steps.{Running, Runs}
+use Rattle.run.specs.Steps as running
+use Rattle.machine.specs.Machine.{stopped_as, wrapped, first_group, Ready, lists_numbers, pending_numbers, RunsFrom, Gives, OrNone}
 use Rattle.machine.proofs.Wiring.{ready_places, ready_pairs, ready_wired}
 
 -- a machine that is ready can be run in scratch of its sizes
@@ -42,10 +44,10 @@ runs_safely {pattern} {code} {places = places} m cells few lists_long pending_lo
 
 -- the run of the table is the machine's on the rest, moved
 pub run_from : {pattern code : List ℕ} {searches : Bool} {places deep : ℕ} (m : Ready pattern code searches places deep)
-    (line : List ℕ) (from cells : ℕ) (found : Bool) (steps : ℕ) (rows : Rows) → length line ≤ line_bytes → from ≤ length line
-    → cells ≡ places * (deep + 1) → Runs code pattern line places from cells found steps rows
-    → stopped_as found steps rows ≡ moved_stopped from (machine (wrapped searches m.tree) (first_group searches) (drop from line))
-run_from {pattern} {code} {searches} {places} {deep} m line from cells found steps rows short inside same ran =
+    (line : List ℕ) (from cells steps : ℕ) (rows : Rust_option Rows) → length line ≤ line_bytes → from ≤ length line
+    → cells ≡ places * (deep + 1) → Runs code pattern line places from cells steps rows
+    → running.stopped_as steps rows ≡ moved_stopped from (machine (wrapped searches m.tree) (first_group searches) (drop from line))
+run_from {pattern} {code} {searches} {places} {deep} m line from cells steps rows short inside same ran =
     let e = wrapped searches m.tree in
     let first = first_group searches in
     let positions = suc (length line - from) in

@@ -7,12 +7,11 @@ use Rattle.paper.specs.Pattern.{Pattern, all_places, depth, groups}
 use Rattle.paper.specs.Layout.{Lawful}
 use Rattle.paper.specs.Check.{pattern_of}
 use Rattle.paper.specs.Rows.{Rows, no_rows}
-use Rattle.paper.specs.Machine.{places_of, machine}
+use Rattle.paper.specs.Machine.{Stopped, places_of, machine}
 use Rattle.paper.specs.Match.{wrap, whole_match, search, match_steps, search_steps, is_match, rows_or_none}
 use Rattle.paper.specs.Tables.{place_numbers, decode}
 use Rattle.paper.specs.Replace.{moved, moved_stopped}
 use Rattle.threads.specs.Threads.{thread_numbers, branch_numbers}
-use Rattle.run.specs.Steps.{stopped_as}
 use Rattle.laying.specs.Laid.{Readable}
 use Rattle.machine.specs.declared.Built.{Built}
 use Rattle.machine.specs.declared.Built.TheVariants.{Refused, Machine}
@@ -75,6 +74,11 @@ pub record Runnable (pattern code line : List ℕ) (searches : Bool) (places dee
   pub short : length line ≤ line_bytes
   pub starts : from ≤ length line
   pub scratch : Scratch places deep seen taken lists pending
+
+-- how a run's answer reads as the definition's
+abbrev pub stopped_as : Bool → ℕ → Rows → Stopped
+stopped_as true steps rows = Stopped.matched steps rows
+stopped_as false steps rows = Stopped.unmatched steps
 
 -- what it promises: the list machine's end on the rest of the line, the rows as places in the whole line
 abbrev pub RunsFrom : List ℕ → List ℕ → List ℕ → ℕ → ℕ → ℕ → Bool → ℕ → Rows → Type 0

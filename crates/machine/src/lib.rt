@@ -7,7 +7,6 @@ ghost use Rattle.laying.specs.Room.{table_room};
 ghost use Rattle.machine.specs.Machine.{Builds, Ready, Runnable, RunsFrom, OrNone, MatchGives, SearchGives, FoundGives, fits_small};
 
 use pattern::{Pattern, PlaceKind, Spans};
-use run::Ran;
 
 // The sizes of a machine's tables, for the largest pattern with a search's wrap around it.
 #[derive(Clone, Copy)]
@@ -56,6 +55,14 @@ pub enum Built {
         depth: usize,
         groups: usize,
     },
+}
+
+// How the machine stopped: whether it matched, the steps made, and the winner's rows, all absent where there is no match.
+#[derive(Clone, Copy)]
+pub struct Ran {
+    pub matched: bool,
+    pub steps: u32,
+    pub rows: [u16; Spans::NUMBERS],
 }
 
 // A depth as a search has it.
@@ -113,7 +120,7 @@ pub fn run_built(
     ensures { RunsFrom pattern.now code.now line.now places depth from result.matched result.steps result.rows }
 {
     let cells = places * (depth + 1);
-    run::run(
+    let ran = run::run(
         code,
         pattern,
         line,
@@ -123,7 +130,19 @@ pub fn run_built(
         pending,
         places,
         from as u16,
-    )
+    );
+    match ran.rows {
+        Some(rows) => Ran {
+            matched: true,
+            steps: ran.steps,
+            rows,
+        },
+        None => Ran {
+            matched: false,
+            steps: ran.steps,
+            rows: Spans::absent_table(),
+        },
+    }
 }
 
 // Rows and steps by value, the rows all absent where there is no match.

@@ -1,16 +1,17 @@
 -- The positions one after the other, with two lists of threads exchanged at each: what holds between two of them.
 use Prim.Native.Nat.{ℕ, ◌+◌, ◌-◌, ◌*◌, ◌≤◌, ◌<◌}
-use mathlib.Core.Path.{◌≡◌, refl, sym, ap, ◌∙◌, subst}
+use mathlib.Core.Path.{◌≡◌, refl, sym, ap, ap₂, ◌∙◌, subst}
 use mathlib.Core.Bool.{Bool, true, false, cond, not, ◌&&◌}
 use mathlib.Core.List.{List}
 use native.Mathlib.Omega.{arith}
 use lib.Dec.{ltb}
 use lib.ListN.{length, replicate, length-replicate}
 use Rattle.paper.specs.Rows.{Rows, no_rows}
-use Rattle.threads.specs.Threads.{rows_from, stored}
-use Rattle.run.specs.Steps.{list_of, Stepping, Steps, Running, Runs, stopped_as}
+use Rattle.std.specs.Prelude.{Some, None}
+use Rattle.threads.specs.Threads.{rows_in, rows_from, stored}
+use Rattle.run.specs.Steps.{list_of, Stepping, Steps, Running, Runs}
 use Rattle.run.proofs.Lists.{list_long, thread_room, rows_of}
-use Rattle.run.proofs.Position.{Position, position_first, position_asked, position_next, position_last, position_less, at_cells}
+use Rattle.run.proofs.Position.{ended, Position, position_first, position_asked, position_next, position_last, position_less, at_cells}
 
 -- of the tables where the loop starts (₀) and now: the threads of the current list, and the lengths that a run keeps
 pub record Course (code pattern line : List ℕ) (places start : ℕ) (seen₀ taken₀ lists₀ pending₀ seen taken lists pending : List ℕ)
@@ -88,8 +89,14 @@ module _ {code pattern line : List ℕ} {places start : ℕ} {seen₀ taken₀ l
     course_winner = thread_room places second lists course_room from number begins winner_inside
 
     -- at the end the answer with its rows is the definition's
-    pub course_rows : goes ≡ false → (cells : ℕ) → length seen₀ ≡ cells → (rows : Rows) → rows ≡ rows_from lists (from + 21 * number)
-        → Runs code pattern line places start cells matched steps rows
-    course_rows stop cells same rows rows_are turns h =
+    pub course_rows : goes ≡ false → matched ≡ true → (cells : ℕ) → length seen₀ ≡ cells → (rows : Rows) → rows ≡ rows_from lists (from + 21 * number)
+        → Runs code pattern line places start cells steps (Some rows)
+    course_rows stop won cells same rows rows_are turns h =
         position_last q.position stop turns (subst (λ (n : ℕ). n < turns) (sym same) h)
-        ∙ ap (stopped_as matched steps) (sym (rows_are ∙ rows_of places second lists course_room from number begins winner_inside))
+        ∙ ap₂ (λ (b : Bool) (r : Rows). ended b steps r) won (sym (rows_are ∙ rows_of places second lists course_room from number begins winner_inside))
+
+  -- and where no thread has won, it has none
+  pub course_none : goes ≡ false → matched ≡ false → (cells : ℕ) → length seen₀ ≡ cells → Runs code pattern line places start cells steps None
+  course_none stop lost cells same turns h =
+      position_last q.position stop turns (subst (λ (n : ℕ). n < turns) (sym same) h)
+      ∙ ap (λ (b : Bool). ended b steps (rows_in (list_of places second lists) number)) lost

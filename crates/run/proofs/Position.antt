@@ -18,11 +18,17 @@ use Rattle.threads.specs.Threads.{place_in, rows_from, rows_in, thread_in, threa
 use Rattle.visit.specs.Wired.{Wired}
 use Rattle.threads.proofs.Stores.{stored_long, stored_place, stored_rows}
 use Rattle.visit.proofs.Loop.{rewire, at_most_one}
+use Rattle.std.specs.Prelude.{Some, None}
 use Rattle.run.specs.Steps.{list_of, Stepping, Steps, Running, stopped_as}
 use Rattle.run.proofs.Lists.{list_long, place_of, rows_of}
 use Rattle.run.proofs.Walk.{and_first, and_second}
 
 -- ---- how a position settles
+
+-- the definition's end, with a thread's rows where it has won
+abbrev pub ended : Bool → ℕ → Rows → Stopped
+ended true steps rows = stopped_as steps (Some rows)
+ended false steps rows = stopped_as steps None
 
 -- nothing carried, and nothing won: the machine stops
 settle_none : (next : List Thread → ℕ → Stopped) (ts : List Thread) (steps : ℕ) → once ts ≡ [] → settle next none ts steps ≡ Stopped.unmatched steps
@@ -41,7 +47,7 @@ module _ (turns : ℕ) (code : List Place) (line : List ℕ) (p : ℕ) where
   -- the rest of the line, where a thread is carried
   go_on : (b : Bool) → ltb p (length line) ≡ b → (ts : List Thread) (steps : ℕ) (list : List ℕ) (count : ℕ) (rows : Rows) → once ts ≡ threads list count
       → run (length line - p) turns code line (suc p) ts steps
-      ≡ cond b (run (suc (length line - (p + 1))) turns code line (p + 1) (threads list count) steps) (stopped_as false steps rows)
+      ≡ cond b (run (suc (length line - (p + 1))) turns code line (p + 1) (threads list count) steps) (ended false steps rows)
   go_on true e ts steps list count rows kept =
       let left : length line - p ≡ suc (length line - (p + 1)) = omega (arith, ltb-true p (length line) e) in
       ap (λ (n : ℕ). run n turns code line (suc p) ts steps) left
@@ -55,14 +61,14 @@ module _ (turns : ℕ) (code : List Place) (line : List ℕ) (p : ℕ) where
   settled : (done : Bool) (count : ℕ) (ts : List Thread) (steps : ℕ) (list : List ℕ) → once ts ≡ threads list count
       → settle (run (length line - p) turns code line (suc p)) (cond done (some (rows_in list count)) none) ts steps
       ≡ cond (not done && (ltb 0 count && ltb p (length line)))
-      (run (suc (length line - (p + 1))) turns code line (p + 1) (threads list count) steps) (stopped_as done steps (rows_in list count))
+      (run (suc (length line - (p + 1))) turns code line (p + 1) (threads list count) steps) (ended done steps (rows_in list count))
   settled true count ts steps list kept = refl
   settled false zero ts steps list kept = settle_none (run (length line - p) turns code line (suc p)) ts steps kept
   settled false (suc n) ts steps list kept =
       settle_some (run (length line - p) turns code line (suc p)) ts steps list n kept
       ∙ (go_on (ltb p (length line)) refl ts steps list (suc n) (rows_in list (suc n)) kept
       ∙ ap (λ (b : Bool). cond (b && ltb p (length line))
-      (run (suc (length line - (p + 1))) turns code line (p + 1) (threads list (suc n)) steps) (stopped_as false steps (rows_in list (suc n))))
+      (run (suc (length line - (p + 1))) turns code line (p + 1) (threads list (suc n)) steps) (ended false steps (rows_in list (suc n))))
       (sym (lt-ltb 0 (suc n) (omega arith))))
 
 -- ---- what holds between two positions
@@ -85,7 +91,7 @@ pub record Position (code pattern line : List ℕ) (places start cells : ℕ) (s
   pub bounded : steps ≤ 65535 * (p - start)
   pub ran : (turns : ℕ) → cells < turns
       → run (suc (length line - start)) turns (decode code pattern places) line start (at 0 0 no_rows ∷ []) 0
-      ≡ cond goes (run (suc (length line - p)) turns (decode code pattern places) line p (threads current number) steps) (stopped_as matched steps (rows_in current number))
+      ≡ cond goes (run (suc (length line - p)) turns (decode code pattern places) line p (threads current number) steps) (ended matched steps (rows_in current number))
 
 zero_under : (p n : ℕ) → Under p (replicate n 0)
 zero_under p zero i = omega arith
@@ -185,21 +191,21 @@ module _ {code pattern line : List ℕ} {places start cells : ℕ} {seen taken c
             let shown = made.shows turns (omega (arith, q.long)) in
             q.ran turns h
             ∙ (ap (λ (g : Bool). cond g (run (suc (length line - p)) turns (decode code pattern places) line p (threads current number) steps)
-            (stopped_as matched steps (rows_in current number))) go
+            (ended matched steps (rows_in current number))) go
             ∙ (ap₂ (λ (w : Option Rows) (n : ℕ). settle (run (length line - p) turns (decode code pattern places) line (suc p)) w s.carried n)
             shown.winner shown.counted
             ∙ (settled turns (decode code pattern places) line p done count s.carried steps' spare' shown.carried
             ∙ ap (λ (g : Bool). cond g (run (suc (length line - (p + 1))) turns (decode code pattern places) line (p + 1) (threads spare' count) steps')
-            (stopped_as done steps' (rows_in spare' count))) (sym going_on))));
+            (ended done steps' (rows_in spare' count))) (sym going_on))));
       }
 
   -- at the end the answer is the definition's
   pub position_last : goes ≡ false → (turns : ℕ) → cells < turns
-      → run (suc (length line - start)) turns (decode code pattern places) line start (at 0 0 no_rows ∷ []) 0 ≡ stopped_as matched steps (rows_in current number)
+      → run (suc (length line - start)) turns (decode code pattern places) line start (at 0 0 no_rows ∷ []) 0 ≡ ended matched steps (rows_in current number)
   position_last stop turns h =
       q.ran turns h
       ∙ ap (λ (g : Bool). cond g (run (suc (length line - p)) turns (decode code pattern places) line p (threads current number) steps)
-      (stopped_as matched steps (rows_in current number))) stop
+      (ended matched steps (rows_in current number))) stop
 
   -- the loop gets shorter
   pub position_less : goes ≡ true → (goes' : Bool) → (length line + 1 - (p + 1)) + cond goes' 1 0 < (length line + 1 - p) + cond goes 1 0

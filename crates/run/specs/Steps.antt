@@ -1,5 +1,5 @@
 -- What a position asks and promises, and what a run does: the definition's, for the places that the table stands for.
-use Rattle.std.specs.Prelude.{ℕ, suc, ◌+◌, ◌-◌, ◌*◌, ◌≤◌, ◌<◌, ◌^◌, ◌≡◌, Bool, true, false, cond, List, [], ◌∷◌, length, take, drop}
+use Rattle.std.specs.Prelude.{ℕ, suc, ◌+◌, ◌-◌, ◌*◌, ◌≤◌, ◌<◌, ◌^◌, ◌≡◌, Bool, cond, List, [], ◌∷◌, length, take, drop, Option, Some, None}
 use Rattle.paper.specs.Limits.{line_bytes, absent}
 use Rattle.paper.specs.Rows.{Rows, no_rows}
 use Rattle.paper.specs.Machine.{at, fresh, visits, run, Stopped}
@@ -50,12 +50,12 @@ pub record Running (code pattern line : List ℕ) (places start : ℕ) (seen tak
   pub starts : start ≤ length line
 
 -- how a run's answer reads as the definition's
-abbrev pub stopped_as : Bool → ℕ → Rows → Stopped
-stopped_as true steps rows = Stopped.matched steps rows
-stopped_as false steps rows = Stopped.unmatched steps
+abbrev pub stopped_as : ℕ → Option Rows → Stopped
+stopped_as steps (Some rows) = Stopped.matched steps rows
+stopped_as steps None = Stopped.unmatched steps
 
 -- what a run promises: its answer is that of the definition's run from one thread at the first place, if the definition's bound is above the number of pairs
-abbrev pub Runs : (code pattern line : List ℕ) (places start cells : ℕ) (matched : Bool) (steps : ℕ) (rows : Rows) → Type 0
-Runs code pattern line places start cells matched steps rows =
+abbrev pub Runs : (code pattern line : List ℕ) (places start cells steps : ℕ) (rows : Option Rows) → Type 0
+Runs code pattern line places start cells steps rows =
     (turns : ℕ) → cells < turns
-    → run (suc (length line - start)) turns (decode code pattern places) line start (at 0 0 no_rows ∷ []) 0 ≡ stopped_as matched steps rows
+    → run (suc (length line - start)) turns (decode code pattern places) line start (at 0 0 no_rows ∷ []) 0 ≡ stopped_as steps rows

@@ -1,7 +1,7 @@
 // The positions of the line one after the other: the threads of a list visited in order, and those that they carry.
 #![tactic(auto)]
 
-ghost use Rattle.std.specs.Prelude.{◌≡◌, not, cond, ◌&&◌, ◌+◌, ◌*◌, ◌≤◌, ◌<◌, ltb, length, replicate};
+ghost use Rattle.std.specs.Prelude.{◌≡◌, not, cond, ◌&&◌, ◌+◌, ◌*◌, ◌≤◌, ◌<◌, ltb, length};
 ghost use Rattle.threads.specs.Threads.{thread_numbers};
 ghost use Rattle.moves.specs.Shows.{AheadIn};
 ghost use Rattle.run.specs.Steps.{list_of, Stepping, Steps, Running, Runs};
@@ -10,23 +10,11 @@ use moves::Ahead;
 use pattern::Spans;
 use visit::Visited;
 
-// How the machine stopped, with the steps made and, where it matched, the winner's rows.
+// How the machine stopped: the steps made, and the winner's rows where it matched.
 #[derive(Clone, Copy)]
 pub struct Ran {
-    pub matched: bool,
     pub steps: u32,
-    pub rows: [u16; Spans::NUMBERS],
-}
-
-// Makes every entry of a table 0.
-fn wipe(table: &mut [u16])
-    ensures { table.new ≡ replicate (length table.old) 0 }
-{
-    let mut i = 0;
-    while i < table.len() {
-        table[i] = 0;
-        i = i + 1;
-    }
+    pub rows: Option<[u16; Spans::NUMBERS]>,
 }
 
 // Whether another thread is to be visited.
@@ -146,10 +134,10 @@ pub fn run(
     start: u16,
 ) -> Ran
     requires { Running code.now pattern.now line.now places start seen.old taken.old lists.old pending.old }
-    ensures { Runs code.now pattern.now line.now places start (length seen.old) result.matched result.steps result.rows }
+    ensures { Runs code.now pattern.now line.now places start (length seen.old) result.steps result.rows }
 {
-    wipe(seen);
-    wipe(taken);
+    seen.fill(0);
+    taken.fill(0);
     let absent = [Spans::ABSENT; Spans::NUMBERS];
     threads::store(lists, 0, 0, absent);
     let mut at = start;
@@ -169,11 +157,12 @@ pub fn run(
         at = at + 1;
         second = !second;
     }
+    if !matched {
+        return Ran { steps, rows: None };
+    }
     let b = list_at(second, threads::THREAD * (places + 1)) + threads::THREAD * number;
-    let rows = threads::load(lists, b);
     Ran {
-        matched,
         steps,
-        rows,
+        rows: Some(threads::load(lists, b)),
     }
 }
