@@ -108,11 +108,7 @@ impl<'a> Case<'a> {
         })
     }
 
-    fn find_in(
-        call: Call,
-        fields: &mut Fields<'_, 'a>,
-        table: &'a mut [u16],
-    ) -> Option<Case<'a>> {
+    fn find_in(call: Call, fields: &mut Fields<'_, 'a>, table: &'a mut [u16]) -> Option<Case<'a>> {
         Some(Case::FindIn {
             call,
             pattern: fields.bytes()?,
