@@ -35,7 +35,7 @@ impl Pattern {
     pub const REPEAT_COUNT: usize = 255;
     // what stands for no upper end in a repeat
     pub const NO_UPPER_END: usize = 65535;
-    // the modes of a repeat
+    // the modes of a repeat, as numbers: laying's `any_star` may be asked with any number, and an enum would ask more
     pub const GREEDY: usize = 0;
 
     pub const LAZY: usize = 1;
