@@ -5,14 +5,13 @@ use mathlib.Core.List.{List, [], ◌∷◌, ◌++◌}
 use native.Mathlib.Omega.{arith}
 use lib.ListN.{length, length-append}
 use Rattle.std.proofs.Math.Seq.{append_snoc}
-use Rattle.std.proofs.lemmas.List.{append-nil}
-use borrow.Author.Tests.{lt-ltb, le-ltb}
-use Rattle.paper.specs.Limits.{pattern_groups, pattern_bytes}
+use borrow.Author.Tests.{lt-ltb}
+use Rattle.paper.specs.Limits.{pattern_groups}
 use Rattle.paper.specs.Refusal.{Checked, refused, accepted, ◌>>=◌}
 use Rattle.paper.specs.Pattern.{Pattern, places, depth, groups}
 use Rattle.paper.specs.Check.{Walk, body_length, body_start, body_end, walk_all}
 use Rattle.pattern.specs.declared.walk.Walked.{Walked}
-use Rattle.pattern.specs.Walk.{capped, places_in, depth_in, groups_in, members_of, Counts, CountsAll}
+use Rattle.pattern.specs.Walk.{capped, places_in, depth_in, groups_in, members_of, Counts}
 
 -- the sums over the records of a list and one more
 places_more : (es : List Pattern) (e : Pattern) → places_in (es ++ e ∷ []) ≡ places_in es + places e
@@ -75,23 +74,6 @@ begun {start} {stop} walk bs at levels before starts ends few = record {
 
 module _ {walk : Walk} {bs : List ℕ} {stop levels before : ℕ} {whole : Checked (List Pattern)} {next count counted deep total : ℕ}
     (l : Left walk bs stop levels before whole next count counted deep total) where
-  -- none is left
-  pub none_more : stop ≤ next → stop ≤ pattern_bytes → CountsAll levels before whole (record { count = count; places = counted; depth = deep; groups = total })
-  none_more over few = record {
-    trees = l.done;
-    are = sym l.same ∙ ended l.turns;
-    count_is = l.count_is;
-    places_are = l.places_are;
-    depth_is = l.depth_is;
-    groups_are = l.groups_are;
-    few_members = omega (arith, l.few_members, l.before_stop);
-    few_levels = l.few_levels;
-    few_groups = l.few_groups;
-  } where
-    ended : (k : ℕ) → behind l.done (walk_all k walk bs next stop total) ≡ accepted l.done
-    ended zero = ap accepted (append-nil l.done)
-    ended (suc k) = rw (le-ltb next stop over) (ap accepted (append-nil l.done))
-
   -- a fault in the next one
   pub bad_one : {number place : ℕ} → next < stop → walk next stop total ≡ refused number place → whole ≡ refused number place
   bad_one {number} {place} more q = sym l.same ∙ hit l.turns l.enough where
