@@ -6,7 +6,7 @@ ghost use Rattle.laying.specs.Lent.{Writes};
 ghost use Rattle.laying.specs.Single.{Head};
 ghost use Rattle.places.specs.Walk.{Joining, Joined, OneAsked, OneMade, HeadAsked, HeadMade, RowAsked, RowMade, RepeatAsked, RepeatMade};
 
-use crate::sums::{alone, known_kind};
+use crate::sums::{Record, known_kind};
 use laying::repeats::{Pass, Passes, inner_places, inner_start};
 use laying::{Place, Table, entered};
 use pattern::{Kind, Pattern, PlaceKind, counts};
@@ -170,7 +170,12 @@ impl Part<'_> {
         let mut left = self;
         let mut end = record_end(self.pattern, self.at);
         while end != self.stop {
-            let own = alone(self.pattern, left.at, end);
+            let record = Record {
+                pattern: self.pattern,
+                at: left.at,
+                end,
+            };
+            let own = record.sums();
             let base = left.base + head;
             let second = base + own.places;
             let rest = left.places - head - own.places;

@@ -1,5 +1,5 @@
 -- Each answer cites the law for its kind of record, or for the step of a row.
-use Rattle.std.proofs.Common.{arith, refl, ◌∙◌, false, true}
+use Rattle.std.proofs.Common.{arith, refl, sym, ◌∙◌, false, true}
 use Rattle.places.proofs.Repeats.{inner_ask, passes_ask, repeat_passes}
 use Rattle.places.proofs.Records.{nothing_to_lay, empty_laid, stop_laid, set_ask, set_laid, group_one, group_two, group_some, group_laid, repeat_ask, repeat_laid, row_ask, row_laid, in_sequence, in_alternation, kind_found}
 use Rattle.places.proofs.Rows.{more_counting, more_few, more_inside, join_sum, join_ask, join_one, join_rest, row_header, along_all, along_one, along_ask, along_last}
@@ -98,40 +98,40 @@ repeated-returns t c = (
 pub row-record_end-end-requires-clause-header : goal.row-record_end-end-requires-clause-header
 row-record_end-end-requires-clause-header t c = omega (arith, row_header c.requires)
 
-pub row-alone-own-requires-clause-counting : goal.row-alone-own-requires-clause-counting
-row-alone-own-requires-clause-counting t c = let i = c.loop-end.invariant.1 in more_counting i.end_is c.loop-end-test.true i.row
+pub row-sums-own-requires : goal.row-sums-own-requires
+row-sums-own-requires t c = let i = c.loop-end.invariant.1 in record { counting = more_counting i.end_is c.loop-end-test.true i.row; ends = sym i.end_is }
 
 pub row-overflow_sub-rest : goal.row-overflow_sub-rest
 row-overflow_sub-rest t c =
-    let i = c.loop-end.invariant.1 in omega (arith, join_sum i.end_is c.loop-end-test.true c.alone-own.ensures c.args.forks c.from-head.ensures i.row)
+    let i = c.loop-end.invariant.1 in omega (arith, join_sum i.end_is c.loop-end-test.true c.sums-own.ensures c.args.forks c.from-head.ensures i.row)
 
 pub row-overflow_sub-rest-in-loop-end : goal.row-overflow_sub-rest-in-loop-end
 row-overflow_sub-rest-in-loop-end t c =
-    let i = c.loop-end.invariant.1 in omega (arith, join_sum i.end_is c.loop-end-test.true c.alone-own.ensures c.args.forks c.from-head.ensures i.row)
+    let i = c.loop-end.invariant.1 in omega (arith, join_sum i.end_is c.loop-end-test.true c.sums-own.ensures c.args.forks c.from-head.ensures i.row)
 
 pub row-joined-next-requires : goal.row-joined-next-requires
 row-joined-next-requires t c =
-    let i = c.loop-end.invariant.1 in rw i.same_next (join_ask i.end_is c.loop-end-test.true c.alone-own.ensures c.args.forks c.from-head.ensures i.row)
+    let i = c.loop-end.invariant.1 in rw i.same_next (join_ask i.end_is c.loop-end-test.true c.sums-own.ensures c.args.forks c.from-head.ensures i.row)
 
 pub row-one-requires : goal.row-one-requires
 row-one-requires t c =
     let i = c.loop-end.invariant.1 in
     let j = rw i.same_next at c.joined-next.ensures.1 in (
       omega (arith, i.passed, i.end_is, row_header i.row),
-      join_one i.end_is c.loop-end-test.true c.alone-own.ensures c.args.forks _ _ c.from-head.ensures j i.row,
+      join_one i.end_is c.loop-end-test.true c.sums-own.ensures c.args.forks _ _ c.from-head.ensures j i.row,
     )
 
 pub row-overflow_add-left : goal.row-overflow_add-left
 row-overflow_add-left t c =
-    let i = c.loop-end.invariant.1 in omega (arith, more_few i.end_is c.loop-end-test.true c.alone-own.ensures i.row)
+    let i = c.loop-end.invariant.1 in omega (arith, more_few i.end_is c.loop-end-test.true c.sums-own.ensures i.row)
 
 pub row-overflow_sub-left : goal.row-overflow_sub-left
-row-overflow_sub-left t c = let i = c.loop-end.invariant.1 in more_inside i.end_is c.loop-end-test.true c.alone-own.ensures i.row
+row-overflow_sub-left t c = let i = c.loop-end.invariant.1 in more_inside i.end_is c.loop-end-test.true c.sums-own.ensures i.row
 
 pub row-record_end-end-requires-in-loop-end-clause-header : goal.row-record_end-end-requires-in-loop-end-clause-header
 row-record_end-end-requires-in-loop-end-clause-header t c =
     let i = c.loop-end.invariant.1 in
-    omega (arith, row_header (join_rest i.end_is c.loop-end-test.true c.alone-own.ensures c.args.forks c.from-head.ensures i.row))
+    omega (arith, row_header (join_rest i.end_is c.loop-end-test.true c.sums-own.ensures c.args.forks c.from-head.ensures i.row))
 
 pub row-loop-end-init : goal.row-loop-end-init
 row-loop-end-init t c = (refl, along_all c.args.table.now.numbers.now c.requires c.record_end-end.ensures)
@@ -141,7 +141,7 @@ row-loop-end-preserved t c =
     let i = c.loop-end.invariant.1 in
     let j = rw i.same_next at c.joined-next.ensures.1 in (
       c.one.ensures.0 ∙ c.joined-next.ensures.0 ∙ c.loop-end.invariant.0,
-      along_one i c.loop-end-test.true c.alone-own.ensures c.from-head.ensures j c.one.ensures.1 c.record_end-end-in-loop-end.ensures,
+      along_one i c.loop-end-test.true c.sums-own.ensures c.from-head.ensures j c.one.ensures.1 c.record_end-end-in-loop-end.ensures,
     )
 
 pub row-one-requires-2 : goal.row-one-requires-2
