@@ -191,10 +191,6 @@ own_asked e bs at p k h ends short small count =
       numbers = λ six. repeat_right e bs at h six;
     }
 
--- so the numbers of a repeat are bounded
-pub own_bounded : {bs : List ℕ} {kind start p k : ℕ} → OwnPlaces bs kind start p k → 5 < kind → Bounded (number_at bs start) (number_at bs (start + 2))
-own_bounded {bs} {start = start} m six = bounded_counts (number_at bs start) (number_at bs (start + 2)) (m.numbers six)
-
 -- the first of the records that are still to come
 pub record First (bs : List ℕ) (at stop : ℕ) : Type 0 where
   pub tree : Pattern

@@ -218,24 +218,3 @@ empty_laid {bs} {at} m one = nothing_to_lay (m.places_are ∙ ap places (empty_v
 -- the kind that was found is the record's
 pub kind_found : {bs : List ℕ} {at stop base next first n gs : ℕ} {k v : Kind} → KindAt bs at k → k ≡ v → One bs at stop base next first n gs → kind_at bs at ≡ number_of v
 kind_found {bs} {at} at_kind is m = sym (at_kind (kind_known m.tree bs at m.inside.stand)) ∙ ap number_of is
-
--- a head and the expression behind it
-pub head_one : {bs : List ℕ} {at stop kind a n base next first p g v : ℕ} {t t1 t2 : List ℕ} → v ≡ entry_of p (base + 1) next → Head kind a n
-    → Put t base kind v a n t1 → OneLaid bs at stop (base + 1) next first p g t1 t2 → HeadLaid bs at stop kind a n base next first p g t t2
-head_one {bs} {base = base} {p = p} ev h put one =
-    record {
-      kept = kept_both base (base + 1 + p) put.kept one.kept (omega arith) (omega arith) (omega arith) (omega arith);
-      head = holds_kept one.kept (omega arith) (head_stands bs ev h put);
-      laid = one.laid;
-    }
-
--- the numbers of a head fit
-pub head_fits : {bs t : List ℕ} {at stop base next first p g kind a n v : ℕ} → One bs at stop (base + 1) next first p g → Head kind a n → 2040 ≤ length t
-    → v ≡ entry_of p (base + 1) next → Fitting t base v a n
-head_fits {base = base} {next = next} {p = p} m h room ev =
-    record {
-      room = omega (arith, m.room);
-      next_fits = omega (arith, ev, entry_small p (base + 1) next {most = 65535} (omega (arith, m.room)) (omega (arith, m.follows)));
-      a_fits = omega (arith, h.a_small);
-      n_fits = omega (arith, h.n_small);
-    }

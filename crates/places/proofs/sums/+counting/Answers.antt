@@ -28,9 +28,6 @@ Record::sums-returns t c =
     read_all _ _ (first_kind _ f c.known_kind-kind.ensures) c.requires.ends c.inside_start.ensures c.sums-inside.ensures c.own_places-own.ensures.0 c.sum.ensures
     c.own_groups.ensures.0
 
-pub Records::sums-loop-record-init : goal.Records::sums-loop-record-init
-Records::sums-loop-record-init t c = rw c.into_iter-record-iterator.ensures.into_iter_gives (c.requires, tt, summing_none c.args.self)
-
 pub Records::sums-sums-own-requires : goal.Records::sums-sums-own-requires
 Records::sums-sums-own-requires t c =
     let s = c.loop-record.invariant.2 in

@@ -133,9 +133,6 @@ row-record_end-end-requires-in-loop-end-clause-header t c =
     let i = c.loop-end.invariant.1 in
     omega (arith, row_header (join_rest i.end_is c.loop-end-test.true c.sums-own.ensures c.args.forks c.from-head.ensures i.row))
 
-pub row-loop-end-init : goal.row-loop-end-init
-row-loop-end-init t c = (refl, along_all c.args.table.now.numbers.now c.requires c.record_end-end.ensures)
-
 pub row-loop-end-preserved : goal.row-loop-end-preserved
 row-loop-end-preserved t c =
     let i = c.loop-end.invariant.1 in
