@@ -1,10 +1,9 @@
 // The walk over the records of a pattern: each is laid by its kind, outer before inner and left to right.
 ghost use Rattle.std.specs.Prelude.{◌≡◌, ◌+◌, ◌≤◌, length};
 ghost use Rattle.paper.specs.Limits.{pattern_bytes};
-ghost use Rattle.paper.specs.Check.{body_end, kind_at};
+ghost use Rattle.paper.specs.Check.{body_end};
 ghost use Rattle.laying.specs.Lent.{Writes};
-ghost use Rattle.laying.specs.Single.{Head};
-ghost use Rattle.places.specs.Walk.{Joining, Joined, OneAsked, OneMade, HeadAsked, HeadMade, RowAsked, RowMade, RepeatAsked, RepeatMade};
+ghost use Rattle.places.specs.Walk.{Joining, Joined, OneAsked, OneMade, GroupAsked, GroupMade, RowAsked, RowMade, RepeatAsked, RepeatMade};
 
 use crate::sums::{Record, known_kind};
 use laying::repeats::{Pass, Passes, inner_places, inner_start};
@@ -36,17 +35,34 @@ fn record_end(pattern: &[u8], at: usize) -> usize
 }
 
 impl Part<'_> {
-    // A place that stands before one expression, and that expression behind it: an open, or a begin of a pass.
+    // The places of a group: its open, what it holds, its close. The part is what it holds, and its places begin with the open.
     #[cycle(walking)]
-    pub fn headed(self, table: &mut Table, kind: u16, a: usize, n: usize)
-        requires one { HeadAsked self }
-        requires head { Head kind a n }
-        ensures { Writes (HeadMade self.entry kind a n) table.old table.new }
+    pub fn captured(self, table: &mut Table, group: usize)
+        requires { GroupAsked self group }
+        ensures { Writes (GroupMade self.entry group) table.old table.new }
     {
         let base = self.base + 1;
-        let next = entered(self.places, base, self.next);
-        table.put(self.base, Place { kind, next, a, n });
-        Part { base, ..self }.one(table);
+        let close = base + self.places;
+        let open = Place {
+            kind: PlaceKind::Open as u16,
+            next: entered(self.places, base, close),
+            a: group,
+            n: 0,
+        };
+        let end = Place {
+            kind: PlaceKind::Close as u16,
+            next: self.next,
+            a: group,
+            n: 0,
+        };
+        table.put(self.base, open);
+        Part {
+            base,
+            next: close,
+            ..self
+        }
+        .one(table);
+        table.put(close, end);
     }
 
     // The places of one repeat: the inner part of its first pass, and the passes around it and its copies.
@@ -103,38 +119,14 @@ impl Part<'_> {
             Kind::Nothing => table.put(self.base, Place::plain(PlaceKind::Stop as u16, 0)),
             Kind::Empty => {}
             Kind::Bytes => table.set_place(self.pattern, start, self.stop, self.base, self.next),
-            Kind::Group => self.group(table),
+            Kind::Group => {
+                let held = Part { first: self.first + 1, places: self.places - 2, groups: self.groups - 1, ..inner };
+                held.captured(table, self.first);
+            }
             Kind::Sequence => inner.row(table, false),
             Kind::Alternation => inner.row(table, true),
             Kind::Repeat => self.repeated(table),
         }
-    }
-
-    // The places of a group: its open, what it holds, its close.
-    #[cycle(walking)]
-    fn group(self, table: &mut Table)
-        requires one { OneAsked self }
-        requires group { kind_at self.pattern.now self.at ≡ 3 }
-        ensures { Writes (OneMade self.entry) table.old table.new }
-    {
-        let places = self.places - 2;
-        let close = self.base + 1 + places;
-        let inner = Part {
-            at: self.at + 4,
-            first: self.first + 1,
-            places,
-            groups: self.groups - 1,
-            next: close,
-            ..self
-        };
-        inner.headed(table, PlaceKind::Open as u16, self.first, 0);
-        let end = Place {
-            kind: PlaceKind::Close as u16,
-            next: self.next,
-            a: self.first,
-            n: 0,
-        };
-        table.put(close, end);
     }
 
     // Where a record of so many places leads that others follow, `rest` places from `second` on: in a sequence to the next that has places,

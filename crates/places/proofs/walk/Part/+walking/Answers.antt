@@ -1,31 +1,16 @@
 -- Each answer cites the law for its kind of record, or for the step of a row.
 use Rattle.std.proofs.Common.{arith, refl, sym, ◌∙◌, false, true}
 use Rattle.places.proofs.Repeats.{inner_ask, passes_ask, repeat_passes}
-use Rattle.places.proofs.Records.{nothing_to_lay, empty_laid, stop_laid, set_ask, set_laid, group_one, group_two, group_some, group_laid, repeat_ask, repeat_laid, row_ask, row_laid, in_sequence, in_alternation, kind_found}
+use Rattle.places.proofs.Records.{nothing_to_lay, empty_laid, stop_laid, set_ask, set_laid, captured_laid, group_two, group_some, group_ask, group_laid, repeat_ask, repeat_laid, row_ask, row_laid, in_sequence, in_alternation, kind_found}
 use Rattle.places.proofs.Rows.{more_counting, more_few, more_inside, join_sum, join_ask, join_one, join_rest, row_header, along_all, along_one, along_ask, along_last}
 use Rattle.places.proofs.walk.Part.+walking.Goals as goal
 
-pub group-overflow_sub-places : goal.group-overflow_sub-places
-group-overflow_sub-places t c = group_two c.requires.one c.requires.group
+pub captured-one-requires : goal.captured-one-requires
+captured-one-requires t c = (omega arith, c.requires.held)
 
-pub group-overflow_sub-inner : goal.group-overflow_sub-inner
-group-overflow_sub-inner t c = group_some c.requires.one c.requires.group
-
-pub group-headed-requires : goal.group-headed-requires
-group-headed-requires t c =
-    (omega arith, (group_one c.requires.one c.requires.group, record { no_set = omega arith; a_small = omega arith; n_small = omega arith }))
-
-pub group-put-requires : goal.group-put-requires
-group-put-requires t c =
-    record {
-      room = omega (arith, group_two c.requires.one c.requires.group, c.headed.ensures.1.kept.same_length);
-      next_fits = omega arith;
-      a_fits = omega arith;
-      n_fits = omega arith;
-    }
-
-pub group-returns : goal.group-returns
-group-returns t c = (c.put.ensures.0 ∙ c.headed.ensures.0, group_laid c.requires.one c.requires.group c.headed.ensures.1 c.put.ensures.1)
+pub captured-returns : goal.captured-returns
+captured-returns t c =
+    (c.put-2.ensures.0 ∙ c.one.ensures.0 ∙ c.put.ensures.0, captured_laid c.entered.ensures c.put.ensures.1 c.one.ensures.1 c.put-2.ensures.1)
 
 pub one-returns-then-self-eq0 : goal.one-returns-then-self-eq0
 one-returns-then-self-eq0 t c = (refl, nothing_to_lay c.if-self-eq0.true)
@@ -44,8 +29,18 @@ pub one-returns-in-Bytes : goal.one-returns-in-Bytes
 one-returns-in-Bytes t c =
     (c.set_place.ensures.0, set_laid c.if-self-eq0.false (kind_found c.known_kind.ensures c.in-Bytes.is c.requires) c.set_place.ensures.1)
 
-pub one-group-requires : goal.one-group-requires
-one-group-requires t c = (omega arith, (c.requires, kind_found c.known_kind.ensures c.in-Group.is c.requires))
+pub one-overflow_sub-held : goal.one-overflow_sub-held
+one-overflow_sub-held t c = group_two c.requires (kind_found c.known_kind.ensures c.in-Group.is c.requires)
+
+pub one-overflow_sub-held-in-Group : goal.one-overflow_sub-held-in-Group
+one-overflow_sub-held-in-Group t c = group_some c.requires (kind_found c.known_kind.ensures c.in-Group.is c.requires)
+
+pub one-captured-requires : goal.one-captured-requires
+one-captured-requires t c = (omega arith, group_ask c.requires (kind_found c.known_kind.ensures c.in-Group.is c.requires))
+
+pub one-returns-in-Group : goal.one-returns-in-Group
+one-returns-in-Group t c =
+    (c.captured.ensures.0, group_laid c.requires (kind_found c.known_kind.ensures c.in-Group.is c.requires) c.captured.ensures.1)
 
 pub one-row-requires : goal.one-row-requires
 one-row-requires t c = (omega arith, row_ask false (in_sequence (kind_found c.known_kind.ensures c.in-Sequence.is c.requires)) c.requires)

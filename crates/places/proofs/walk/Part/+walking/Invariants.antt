@@ -4,14 +4,11 @@ use Rattle.laying.specs.Lent.{Writes}
 use Rattle.places.proofs.Rows.{Along}
 use Rattle.places.proofs.walk.Part.+walking.Given as goal
 
-abbrev pub decreases-headed : goal.decreases-headed
-decreases-headed l = 4 * (l.self.stop - l.self.at) + 1
+abbrev pub decreases-captured : goal.decreases-captured
+decreases-captured l = 4 * (l.self.stop - l.self.at) + 1
 
 abbrev pub decreases-one : goal.decreases-one
 decreases-one l = 4 * (l.self.stop - l.self.at)
-
-abbrev pub decreases-group : goal.decreases-group
-decreases-group l = 4 * (l.self.stop - (l.self.at + 4)) + 2
 
 abbrev pub decreases-repeated : goal.decreases-repeated
 decreases-repeated l = 4 * (l.self.stop - (l.self.at + 4))
