@@ -4,6 +4,7 @@ use Prim.Native.Nat.{ℕ, zero, suc, ◌+◌, ◌-◌, ◌≤◌, ◌<◌}
 use mathlib.Core.Path.{◌≡◌, refl, sym, ap, subst, ◌∙◌}
 use mathlib.Core.Bool.{Bool, true, false, cond}
 use mathlib.Core.List.{List, [], ◌∷◌}
+use mathlib.Core.Logic.{◌⊎◌, inl, inr}
 use Rattle.std.specs.Prelude.{Some}
 use native.Mathlib.Nat.{mul-le-mul_right, min-eq_left}
 use native.Mathlib.Omega.{arith}
@@ -22,6 +23,7 @@ use Rattle.paper.proofs.layout.MemberList.{list_of}
 use Rattle.pattern.specs.Walk.{capped, places_in, groups_in}
 use Rattle.pattern.proofs.Counting.{repeat_passes, Bounded, bounded_counts}
 use Rattle.pattern.specs.declared.Kind.{Kind}
+use Rattle.pattern.specs.declared.Kind.TheVariants.{Nothing, Empty, Bytes}
 use Rattle.places.specs.declared.sums.Sums.{Sums}
 use Rattle.places.specs.declared.sums.Records.{Records}
 use Rattle.places.specs.declared.sums.Record.{Record}
@@ -378,6 +380,32 @@ own_counted {bs} {at} {stop} {ip} {ig} {ik} {q} ends c cut = record { small = om
           groups_are = ap (own_groups (kind_at bs at)) s.groups_are ∙ own_groups_law e bs at h.0 ∙ omega arith;
           records_are = refl;
         }
+
+-- nothing stands inside a record whose kind has a low number
+none_inside : {bs : List ℕ} (at : ℕ) → kind_at bs at < 3
+    → Counted bs (inside_start (kind_at bs at) (body_start at) (body_end bs at)) (body_end bs at) 0 0 0
+none_inside {bs} at low =
+    let few : ltb (kind_at bs at) 3 ≡ true = lt-ltb (kind_at bs at) 3 low in
+    let law : inside_start (kind_at bs at) (body_start at) (body_end bs at) ≡ body_end bs at =
+    ap (λ (b : Bool). cond b (body_end bs at) (cond (ltb (kind_at bs at) 6) (body_start at) (body_start at + repeat_head))) few in
+    adding_all (adding_none _ (body_end bs at)) (omega (arith, law))
+
+-- a record of such a kind, by itself
+leaf_counted : {bs : List ℕ} {at stop : ℕ} (kind leaf : Kind) → Counting bs at stop → body_end bs at ≡ stop → KindAt bs at kind → kind ≡ leaf → number_of leaf < 3
+    → Counted bs at stop (capped (own_places bs (number_of leaf) (body_start at) 0 0)) (own_groups (number_of leaf) 0) 1
+leaf_counted {bs} {at} kind leaf m ends known is low =
+    let ek : number_of leaf ≡ kind_at bs at = ap number_of (sym is) ∙ first_kind kind (first m (omega (arith, ends))) known in
+    rw ek (own_counted ends (none_inside at (omega (arith, ek))) refl)
+
+-- a byte set, and a record that takes nothing, is one place
+pub place_counted : {bs : List ℕ} {at stop : ℕ} {kind : Kind} → Counting bs at stop → body_end bs at ≡ stop → KindAt bs at kind → (kind ≡ Nothing) ⊎ (kind ≡ Bytes)
+    → Counted bs at stop 1 0 1
+place_counted m ends known (inl is) = leaf_counted _ Nothing m ends known is (omega arith)
+place_counted m ends known (inr is) = leaf_counted _ Bytes m ends known is (omega arith)
+
+-- an empty one has none
+pub empty_counted : {bs : List ℕ} {at stop : ℕ} {kind : Kind} → Counting bs at stop → body_end bs at ≡ stop → KindAt bs at kind → kind ≡ Empty → Counted bs at stop 0 0 1
+empty_counted m ends known is = leaf_counted _ Empty m ends known is (omega arith)
 
 -- what stands inside a record starts behind its header
 pub inside_after : (kind start end : ℕ) → start ≤ end → start ≤ inside_start kind start end

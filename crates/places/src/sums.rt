@@ -2,7 +2,7 @@
 ghost use Rattle.std.specs.Prelude.{◌≡◌, ◌+◌, ◌-◌, ◌*◌, ◌≤◌, length};
 ghost use Rattle.std.specs.Iterator.{at_most};
 ghost use Rattle.paper.specs.Limits.{pattern_bytes, row_count};
-ghost use Rattle.paper.specs.Check.{body_end};
+ghost use Rattle.paper.specs.Check.{body_end, kind_at};
 ghost use Rattle.places.specs.Sums.{number_of, KindAt, most_own, inside_start, own_places, OwnPlaces, own_groups, Counting, Counted};
 ghost use Rattle.places.specs.Rowed.{Waiting, Goes, Alone, AddsUp};
 
@@ -129,13 +129,35 @@ fn own_groups(kind: Kind, groups: usize) -> usize
 }
 
 impl Record<'_> {
-    // What it adds up to, alone.
+    // What it adds up to, alone. Most records hold no other: those take no call.
     #[cycle(counting)]
     pub fn sums(self) -> Sums
         requires { Alone self }
         ensures { Counted self.entry.pattern.now self.entry.at self.entry.end result.places result.groups result.records }
     {
         let kind = known_kind(self.pattern, self.at);
+        match kind {
+            Kind::Nothing | Kind::Bytes => Sums {
+                places: 1,
+                groups: 0,
+                records: 1,
+            },
+            Kind::Empty => Sums {
+                places: 0,
+                groups: 0,
+                records: 1,
+            },
+            _ => self.holder_sums(kind),
+        }
+    }
+
+    // The same, by what the records inside it add up to.
+    #[cycle(counting)]
+    fn holder_sums(self, kind: Kind) -> Sums
+        requires alone { Alone self }
+        requires known { number_of kind ≡ kind_at self.pattern.now self.at }
+        ensures { Counted self.entry.pattern.now self.entry.at self.entry.end result.places result.groups result.records }
+    {
         let start = self.at + 4;
         let inner = Records {
             pattern: self.pattern,

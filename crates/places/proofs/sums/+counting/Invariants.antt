@@ -4,10 +4,13 @@ use Rattle.places.proofs.Adding.{Summing}
 use Rattle.places.proofs.sums.+counting.Given as goal
 
 abbrev pub decreases-Record::sums : goal.decreases-Record::sums
-decreases-Record::sums l = 2 * (l.self.end - l.self.at)
+decreases-Record::sums l = 3 * (l.self.end - l.self.at) + 1
+
+abbrev pub decreases-Record::holder_sums : goal.decreases-Record::holder_sums
+decreases-Record::holder_sums l = 3 * (l.self.end - l.self.at)
 
 abbrev pub decreases-Records::sums : goal.decreases-Records::sums
-decreases-Records::sums l = 2 * (l.self.stop - l.self.at) + 1
+decreases-Records::sums l = 3 * (l.self.stop - l.self.at) + 2
 
 abbrev pub invariant-Records::sums-loop-record : goal.invariant-Records::sums-loop-record
 invariant-Records::sums-loop-record l =
