@@ -438,6 +438,6 @@ module _ {bs : List ℕ} {end r : ℕ} (at : ℕ) (kind : Kind) (ek : number_of 
   read_groups f c = omega (arith, ((read_counted c).sums (first_inside f)).groups_are, held_groups f.tree)
 
   -- what the record adds up to
-  pub read_all : {ip ig ik own q og : ℕ} → Counted bs r end ip ig ik → own ≡ own_places bs (number_of kind) (at + 4) ip ik → q ≡ capped (0 + own)
+  pub read_all : {ip ig ik own q og : ℕ} → Counted bs r end ip ig ik → own ≡ own_places bs (number_of kind) (at + 4) ip ik → q ≡ capped own
       → og ≡ own_groups (number_of kind) ig → Counted bs at end q og 1
-  read_all c eo cut eg = rw (eg, ek) (own_counted ends (read_counted c) (rw (eo, ek) at cut ∙ omega arith))
+  read_all c eo cut eg = rw (eg, ek) (own_counted ends (read_counted c) (rw (eo, ek) at cut))

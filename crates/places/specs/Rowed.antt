@@ -24,3 +24,6 @@ pub record Alone (m : Record) : Type 0 where
 -- what they add up to
 abbrev pub AddsUp : Records → Sums → Type 0
 AddsUp m s = Counted m.pattern.now m.at m.stop s.places s.groups s.records
+
+abbrev pub OneAddsUp : Record → Sums → Type 0
+OneAddsUp r s = Counted r.pattern.now r.at r.end s.places s.groups s.records

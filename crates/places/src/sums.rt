@@ -2,11 +2,11 @@
 ghost use Rattle.std.specs.Prelude.{◌≡◌, ◌+◌, ◌-◌, ◌*◌, ◌≤◌, length};
 ghost use Rattle.std.specs.Iterator.{at_most};
 ghost use Rattle.paper.specs.Limits.{pattern_bytes, row_count};
-ghost use Rattle.paper.specs.Check.{body_end, kind_at};
-ghost use Rattle.places.specs.Sums.{number_of, KindAt, most_own, inside_start, own_places, OwnPlaces, own_groups, Counting, Counted};
-ghost use Rattle.places.specs.Rowed.{Waiting, Goes, Alone, AddsUp};
+ghost use Rattle.paper.specs.Check.{body_end};
+ghost use Rattle.places.specs.Sums.{number_of, KindAt, most_own, inside_start, own_places, OwnPlaces, own_groups};
+ghost use Rattle.places.specs.Rowed.{Waiting, Goes, Alone, AddsUp, OneAddsUp};
 
-use pattern::{Kind, counts};
+use pattern::{Kind, Pattern, counts};
 use records::number_at;
 
 // What records that stand one after another add up to. Places are counted up to the pattern's limit, as `pattern` counts them.
@@ -70,7 +70,7 @@ impl Records<'_> {
             records: 0,
         };
         for record in self {
-            let own = record.sums();
+            let own = record.counted();
             sums = Sums {
                 places: counts::sum(sums.places, own.places),
                 groups: sums.groups + own.groups,
@@ -129,14 +129,34 @@ fn own_groups(kind: Kind, groups: usize) -> usize
 }
 
 impl Record<'_> {
-    // What it adds up to, alone. Most records hold no other: those take no call.
+    // What it adds up to alone, by what the records inside it add up to.
     #[cycle(counting)]
-    pub fn sums(self) -> Sums
+    fn counted(self) -> Sums
         requires { Alone self }
-        ensures { Counted self.entry.pattern.now self.entry.at self.entry.end result.places result.groups result.records }
+        ensures { OneAddsUp self.entry result }
     {
         let kind = known_kind(self.pattern, self.at);
-        match kind {
+        let start = self.at + 4;
+        let inner = Records {
+            pattern: self.pattern,
+            at: inside_start(kind, start, self.end),
+            stop: self.end,
+        };
+        let inside = inner.sums();
+        let own = own_places(self.pattern, kind, start, inside);
+        Sums {
+            places: own.min(Pattern::PLACES),
+            groups: own_groups(kind, inside.groups),
+            records: 1,
+        }
+    }
+
+    // The same, without a call where no record is inside, as in most.
+    pub fn sums(self) -> Sums
+        requires { Alone self }
+        ensures { OneAddsUp self.entry result }
+    {
+        match known_kind(self.pattern, self.at) {
             Kind::Nothing | Kind::Bytes => Sums {
                 places: 1,
                 groups: 0,
@@ -147,29 +167,7 @@ impl Record<'_> {
                 groups: 0,
                 records: 1,
             },
-            _ => self.holder_sums(kind),
-        }
-    }
-
-    // The same, by what the records inside it add up to.
-    #[cycle(counting)]
-    fn holder_sums(self, kind: Kind) -> Sums
-        requires alone { Alone self }
-        requires known { number_of kind ≡ kind_at self.pattern.now self.at }
-        ensures { Counted self.entry.pattern.now self.entry.at self.entry.end result.places result.groups result.records }
-    {
-        let start = self.at + 4;
-        let inner = Records {
-            pattern: self.pattern,
-            at: inside_start(kind, start, self.end),
-            stop: self.end,
-        };
-        let inside = inner.sums();
-        let own = own_places(self.pattern, kind, start, inside);
-        Sums {
-            places: counts::sum(0, own),
-            groups: own_groups(kind, inside.groups),
-            records: 1,
+            _ => self.counted(),
         }
     }
 }

@@ -3,14 +3,11 @@ use Rattle.std.proofs.Common.{◌+◌, ◌-◌, ◌*◌}
 use Rattle.places.proofs.Adding.{Summing}
 use Rattle.places.proofs.sums.+counting.Given as goal
 
-abbrev pub decreases-Record::sums : goal.decreases-Record::sums
-decreases-Record::sums l = 3 * (l.self.end - l.self.at) + 1
-
-abbrev pub decreases-Record::holder_sums : goal.decreases-Record::holder_sums
-decreases-Record::holder_sums l = 3 * (l.self.end - l.self.at)
+abbrev pub decreases-Record::counted : goal.decreases-Record::counted
+decreases-Record::counted l = 2 * (l.self.end - l.self.at)
 
 abbrev pub decreases-Records::sums : goal.decreases-Records::sums
-decreases-Records::sums l = 3 * (l.self.stop - l.self.at) + 2
+decreases-Records::sums l = 2 * (l.self.stop - l.self.at) + 1
 
 abbrev pub invariant-Records::sums-loop-record : goal.invariant-Records::sums-loop-record
 invariant-Records::sums-loop-record l =
