@@ -109,10 +109,10 @@ abbrev pub GroupMade : Part → ℕ → List ℕ → List ℕ → Type 0
 GroupMade p k = GroupLaid p.pattern.now p.at p.stop p.base p.next p.first p.places p.groups k
 
 abbrev pub RowAsked : Part → Bool → Type 0
-RowAsked p forks = Several p.pattern.now p.at p.stop forks p.base p.next p.first p.places p.groups
+RowAsked p forks = Several p.pattern.now (p.at + 4) p.stop forks p.base p.next p.first p.places p.groups
 
 abbrev pub RowMade : Part → Bool → List ℕ → List ℕ → Type 0
-RowMade p forks = SeveralLaid p.pattern.now p.at p.stop forks p.base p.next p.first p.places p.groups
+RowMade p forks = SeveralLaid p.pattern.now (p.at + 4) p.stop forks p.base p.next p.first p.places p.groups
 
 abbrev pub RepeatAsked : Part → Type 0
 RepeatAsked p = Repeat p.pattern.now (p.at + 4) p.stop p.base p.next p.first p.places p.groups

@@ -1,7 +1,7 @@
 // The walk over the records of a pattern: each is laid by its kind, outer before inner and left to right.
 ghost use Rattle.std.specs.Prelude.{◌≡◌, ◌+◌, ◌≤◌, length};
 ghost use Rattle.paper.specs.Limits.{pattern_bytes};
-ghost use Rattle.paper.specs.Check.{body_end};
+ghost use Rattle.paper.specs.Check.{body_end, kind_at};
 ghost use Rattle.laying.specs.Lent.{Writes};
 ghost use Rattle.places.specs.Walk.{Joining, Joined, OneAsked, OneMade, GroupAsked, GroupMade, RowAsked, RowMade, RepeatAsked, RepeatMade};
 
@@ -67,6 +67,7 @@ impl Part<'_> {
 
     // The places of one repeat: the inner part of its first pass, and the passes around it and its copies.
     #[cycle(walking)]
+    #[inline(never)]
     fn repeated(self, table: &mut Table)
         requires { RepeatAsked self }
         ensures { Writes (RepeatMade self.entry) table.old table.new }
@@ -104,7 +105,7 @@ impl Part<'_> {
         passes.lay(table);
     }
 
-    // The places of one record.
+    // The places of one record. What lays the records inside it stands apart: most records hold none, and theirs is the shorter way.
     #[cycle(walking)]
     pub fn one(self, table: &mut Table)
         requires { OneAsked self }
@@ -113,20 +114,39 @@ impl Part<'_> {
         if self.places == 0 {
             return;
         }
-        let start = self.at + 4;
-        let inner = Part { at: start, ..self };
         match known_kind(self.pattern, self.at) {
             Kind::Nothing => table.put(self.base, Place::plain(PlaceKind::Stop as u16, 0)),
             Kind::Empty => {}
-            Kind::Bytes => table.set_place(self.pattern, start, self.stop, self.base, self.next),
-            Kind::Group => {
-                let held = Part { first: self.first + 1, places: self.places - 2, groups: self.groups - 1, ..inner };
-                held.captured(table, self.first);
-            }
-            Kind::Sequence => inner.row(table, false),
-            Kind::Alternation => inner.row(table, true),
+            Kind::Bytes => table.set_place(
+                self.pattern,
+                self.at + 4,
+                self.stop,
+                self.base,
+                self.next,
+            ),
+            Kind::Group => self.group(table),
+            Kind::Sequence => self.row(table, false),
+            Kind::Alternation => self.row(table, true),
             Kind::Repeat => self.repeated(table),
         }
+    }
+
+    // The places of a group.
+    #[cycle(walking)]
+    #[inline(never)]
+    fn group(self, table: &mut Table)
+        requires one { OneAsked self }
+        requires group { kind_at self.pattern.now self.at ≡ 3 }
+        ensures { Writes (OneMade self.entry) table.old table.new }
+    {
+        let held = Part {
+            at: self.at + 4,
+            first: self.first + 1,
+            places: self.places - 2,
+            groups: self.groups - 1,
+            ..self
+        };
+        held.captured(table, self.first);
     }
 
     // Where a record of so many places leads that others follow, `rest` places from `second` on: in a sequence to the next that has places,
@@ -152,15 +172,19 @@ impl Part<'_> {
         }
     }
 
-    // The places of records that stand one after another, as a sequence or with the forks of an alternation, one before each record but the last.
+    // The places of the records inside one, as a sequence or with the forks of an alternation, one before each record but the last.
     #[cycle(walking)]
+    #[inline(never)]
     fn row(self, table: &mut Table, forks: bool)
         requires { RowAsked self forks }
         ensures { Writes (RowMade self.entry forks) table.old table.new }
     {
         let head = usize::from(forks);
-        let mut left = self;
-        let mut end = record_end(self.pattern, self.at);
+        let mut left = Part {
+            at: self.at + 4,
+            ..self
+        };
+        let mut end = record_end(self.pattern, left.at);
         while end != self.stop {
             let record = Record {
                 pattern: self.pattern,

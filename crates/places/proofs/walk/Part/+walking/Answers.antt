@@ -29,18 +29,20 @@ pub one-returns-in-Bytes : goal.one-returns-in-Bytes
 one-returns-in-Bytes t c =
     (c.set_place.ensures.0, set_laid c.if-self-eq0.false (kind_found c.known_kind.ensures c.in-Bytes.is c.requires) c.set_place.ensures.1)
 
-pub one-overflow_sub-held : goal.one-overflow_sub-held
-one-overflow_sub-held t c = group_two c.requires (kind_found c.known_kind.ensures c.in-Group.is c.requires)
+pub one-group-requires : goal.one-group-requires
+one-group-requires t c = (omega arith, (c.requires, kind_found c.known_kind.ensures c.in-Group.is c.requires))
 
-pub one-overflow_sub-held-in-Group : goal.one-overflow_sub-held-in-Group
-one-overflow_sub-held-in-Group t c = group_some c.requires (kind_found c.known_kind.ensures c.in-Group.is c.requires)
+pub group-overflow_sub-held : goal.group-overflow_sub-held
+group-overflow_sub-held t c = group_two c.requires.one c.requires.group
 
-pub one-captured-requires : goal.one-captured-requires
-one-captured-requires t c = (omega arith, group_ask c.requires (kind_found c.known_kind.ensures c.in-Group.is c.requires))
+pub group-overflow_sub-held-2 : goal.group-overflow_sub-held-2
+group-overflow_sub-held-2 t c = group_some c.requires.one c.requires.group
 
-pub one-returns-in-Group : goal.one-returns-in-Group
-one-returns-in-Group t c =
-    (c.captured.ensures.0, group_laid c.requires (kind_found c.known_kind.ensures c.in-Group.is c.requires) c.captured.ensures.1)
+pub group-captured-requires : goal.group-captured-requires
+group-captured-requires t c = (omega arith, group_ask c.requires.one c.requires.group)
+
+pub group-returns : goal.group-returns
+group-returns t c = (c.captured.ensures.0, group_laid c.requires.one c.requires.group c.captured.ensures.1)
 
 pub one-row-requires : goal.one-row-requires
 one-row-requires t c = (omega arith, row_ask false (in_sequence (kind_found c.known_kind.ensures c.in-Sequence.is c.requires)) c.requires)
@@ -116,8 +118,8 @@ row-one-requires t c =
       join_one i.end_is c.loop-end-test.true c.sums-own.ensures c.args.forks _ _ c.from-head.ensures j i.row,
     )
 
-pub row-overflow_add-left : goal.row-overflow_add-left
-row-overflow_add-left t c =
+pub row-overflow_add-left-in-loop-end : goal.row-overflow_add-left-in-loop-end
+row-overflow_add-left-in-loop-end t c =
     let i = c.loop-end.invariant.1 in omega (arith, more_few i.end_is c.loop-end-test.true c.sums-own.ensures i.row)
 
 pub row-overflow_sub-left : goal.row-overflow_sub-left

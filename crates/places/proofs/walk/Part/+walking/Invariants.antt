@@ -10,11 +10,14 @@ decreases-captured l = 4 * (l.self.stop - l.self.at) + 1
 abbrev pub decreases-one : goal.decreases-one
 decreases-one l = 4 * (l.self.stop - l.self.at)
 
+abbrev pub decreases-group : goal.decreases-group
+decreases-group l = 4 * (l.self.stop - (l.self.at + 4)) + 2
+
 abbrev pub decreases-repeated : goal.decreases-repeated
 decreases-repeated l = 4 * (l.self.stop - (l.self.at + 4))
 
 abbrev pub decreases-row : goal.decreases-row
-decreases-row l = 4 * (l.self.stop - l.self.at) + 2
+decreases-row l = 4 * (l.self.stop - (l.self.at + 4)) + 2
 
 abbrev pub invariant-row-loop-end : goal.invariant-row-loop-end
 invariant-row-loop-end l = Writes (Along l.self l.forks l.left l.end) l.initial.table l.table
