@@ -86,14 +86,13 @@ impl Part<'_> {
             next: model + places,
             ..self
         };
-        let pass = Pass {
-            model,
-            places,
-            first: self.first,
-            groups: self.groups,
-        };
         let passes = Passes {
-            pass,
+            pass: Pass {
+                model,
+                places,
+                first: self.first,
+                groups: self.groups,
+            },
             must,
             may,
             endless: most == Pattern::NO_UPPER_END,

@@ -1,6 +1,6 @@
 -- Each answer asks for the record that is counted, and the law for what is told of it.
 use Rattle.std.proofs.Common.{◌+◌, arith}
-use Rattle.places.proofs.Adding.{adding_none, adding_all, first, first_kind, inside_after, read_inside, read_own, read_groups, read_all, summing_none, summing_inside, summing_alone, summing_few, summing_more, summing_left, summing_all}
+use Rattle.places.proofs.Adding.{first, first_kind, inside_after, read_inside, read_own, read_groups, read_all, place_counted, empty_counted, summing_none, summing_inside, summing_alone, summing_few, summing_more, summing_left, summing_all}
 use Rattle.places.specs.Sums.{number_of}
 use Rattle.places.proofs.sums.+counting.Goals as goal
 
@@ -28,21 +28,24 @@ Record::counted-returns t c =
     read_all _ _ (first_kind _ f c.known_kind-kind.ensures) c.requires.ends c.inside_start.ensures c.sums-inside.ensures c.own_places-own.ensures.0 c.min.ensures
     c.own_groups.ensures.0
 
-pub Records::added-counted-own-requires : goal.Records::added-counted-own-requires
-Records::added-counted-own-requires t c =
+pub Records::sums-sums-own-requires : goal.Records::sums-sums-own-requires
+Records::sums-sums-own-requires t c =
     let s = c.loop-record.invariant.2 in
     (omega (arith, summing_inside c.requires s c.in-Some.ensures.steps), summing_alone c.requires s c.in-Some.ensures.steps)
 
-pub Records::added-overflow_add-sums : goal.Records::added-overflow_add-sums
-Records::added-overflow_add-sums t c = omega (arith, summing_few c.requires c.loop-record.invariant.2 c.in-Some.ensures.steps c.counted-own.ensures)
+pub Records::sums-overflow_add-sums : goal.Records::sums-overflow_add-sums
+Records::sums-overflow_add-sums t c = omega (arith, summing_few c.requires c.loop-record.invariant.2 c.in-Some.ensures.steps c.sums-own.ensures)
 
-pub Records::added-loop-record-preserved : goal.Records::added-loop-record-preserved
-Records::added-loop-record-preserved t c =
-    let more = summing_more c.requires c.loop-record.invariant.2 c.in-Some.ensures.steps c.counted-own.ensures c.sum.ensures in
+pub Records::sums-loop-record-preserved : goal.Records::sums-loop-record-preserved
+Records::sums-loop-record-preserved t c =
+    let more = summing_more c.requires c.loop-record.invariant.2 c.in-Some.ensures.steps c.sums-own.ensures c.sum.ensures in
     (summing_left c.requires more, tt, more)
 
-pub Records::added-returns : goal.Records::added-returns
-Records::added-returns t c = summing_all c.loop-record.invariant.2 c.in-None.ensures.steps
+pub Records::sums-returns : goal.Records::sums-returns
+Records::sums-returns t c = summing_all c.loop-record.invariant.2 c.in-None.ensures.steps
 
-pub Records::sums-returns-else-self : goal.Records::sums-returns-else-self
-Records::sums-returns-else-self t c = adding_all (adding_none _ _) c.if-self.false
+pub Record::sums-returns-in-Nothing : goal.Record::sums-returns-in-Nothing
+Record::sums-returns-in-Nothing t c = place_counted c.requires.counting c.requires.ends c.known_kind.ensures c.in-Nothing.is
+
+pub Record::sums-returns-in-Empty : goal.Record::sums-returns-in-Empty
+Record::sums-returns-in-Empty t c = empty_counted c.requires.counting c.requires.ends c.known_kind.ensures c.in-Empty.is

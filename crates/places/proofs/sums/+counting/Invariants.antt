@@ -6,14 +6,14 @@ use Rattle.places.proofs.sums.+counting.Given as goal
 abbrev pub decreases-Record::counted : goal.decreases-Record::counted
 decreases-Record::counted l = 2 * (l.self.end - l.self.at)
 
-abbrev pub decreases-Records::added : goal.decreases-Records::added
-decreases-Records::added l = 2 * (l.self.stop - l.self.at) + 1
+abbrev pub decreases-Record::sums : goal.decreases-Record::sums
+decreases-Record::sums l = 2 * (l.self.end - l.self.at) + 1
 
 abbrev pub decreases-Records::sums : goal.decreases-Records::sums
 decreases-Records::sums l = 2 * (l.self.stop - l.self.at) + 2
 
-abbrev pub invariant-Records::added-loop-record : goal.invariant-Records::added-loop-record
-invariant-Records::added-loop-record l =
-    (goal.iterator-Records::added-loop-record).can_next l.record-iterator
-    × (goal.iterator-Records::added-loop-record).is_finite l.record-iterator
+abbrev pub invariant-Records::sums-loop-record : goal.invariant-Records::sums-loop-record
+invariant-Records::sums-loop-record l =
+    (goal.iterator-Records::sums-loop-record).can_next l.record-iterator
+    × (goal.iterator-Records::sums-loop-record).is_finite l.record-iterator
     × Summing l.self l.record-iterator l.sums
