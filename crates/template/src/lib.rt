@@ -30,6 +30,12 @@ pub struct Span {
 }
 
 impl Span {
+    fn new(source: Source, start: usize, end: usize) -> Span
+        ensures { result ≡ record { source = source; start = start; end = end } }
+    {
+        Span { source, start, end }
+    }
+
     // The bytes themselves.
     fn bytes<'a>(self, template: &'a [u8], line: &'a [u8]) -> &'a [u8]
         requires { Inside template.now line.now (span_of self) }
@@ -174,20 +180,12 @@ fn row_part(size: usize, table: &[u16], row: usize) -> Result<Span, Refused>
     let first = table[2 * row];
     let last = table[2 * row + 1];
     if first == Spans::ABSENT && last == Spans::ABSENT {
-        return Ok(Span {
-            source: Source::Line,
-            start: 0,
-            end: 0,
-        });
+        return Ok(Span::new(Source::Line, 0, 0));
     }
     let start = usize::from(first);
     let end = usize::from(last);
     if start <= end && end <= size {
-        return Ok(Span {
-            source: Source::Line,
-            start,
-            end,
-        });
+        return Ok(Span::new(Source::Line, start, end));
     }
     Err(Refusal::RowWrong.at(0))
 }
@@ -205,11 +203,7 @@ pub fn piece(template: &[u8], line: &[u8], table: &[u16], number: usize) -> Resu
     }
     match Records::new(template).nth(number) {
         None => Err(Refusal::NoSuchPiece.at(0)),
-        Some((_, Record::Literal { start, end })) => Ok(Span {
-            source: Source::Template,
-            start,
-            end,
-        }),
+        Some((_, Record::Literal { start, end })) => Ok(Span::new(Source::Template, start, end)),
         Some((_, Record::Reference { row, next: _ })) => row_part(line.len(), table, row),
     }
 }

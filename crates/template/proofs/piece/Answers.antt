@@ -18,10 +18,11 @@ pub returns-in-Some-default-Literal : goal.returns-in-Some-default-Literal
 returns-in-Some-default-Literal c =
     let (pieces, is, all) = counted_right c.args.template.now c.in_ok-check_template.field-0 c.in_ok-check_template.ensures in
     let some = c.in-Some-default-Literal in
-    ap (λ (r : Record). span_of (piece_of some.field-0-0 r) (length c.args.line.now) c.args.table.now) (sym some.field-0-1-is)
+    rw c.new-in-Some-default-Literal.ensures
+    (ap (λ (r : Record). span_of (piece_of some.field-0-0 r) (length c.args.line.now) c.args.table.now) (sym some.field-0-1-is)
     ∙ nth_given c.args.template.now c.new.result c.nth.new.self c.args.number c.new.ensures pieces is some.field-0-0 some.field-0-1 some.ensures.ran
     (length c.args.line.now) c.args.table.now
-    ∙ call_rest c.args.template.now c.args.line.now c.args.table.now c.args.number pieces is c.if-line-gt-BYTES.false c.if-table-lt-NUMBERS.false
+    ∙ call_rest c.args.template.now c.args.line.now c.args.table.now c.args.number pieces is c.if-line-gt-BYTES.false c.if-table-lt-NUMBERS.false)
 
 pub returns-in-Some-default-Reference : goal.returns-in-Some-default-Reference
 returns-in-Some-default-Reference c =
