@@ -1,4 +1,5 @@
 -- Checking's refusals, or the machine that building wrote.
+use Rattle.std.proofs.Common.{arith}
 use Rattle.machine.proofs.Building.{tree_of, accepted_of, builds_match, builds_search}
 use Rattle.machine.proofs.build.Goals as goal
 
@@ -11,7 +12,7 @@ build_match-places-requires-clause-accepted c = accepted_of (tree_of c.check.ens
 pub returns-then-searches : goal.returns-then-searches
 returns-then-searches c =
     builds_search c.args.pattern.now c.args.code.now c.build_search-places.new.table (λ i. (c.type_inv.pattern i).fits) c.requires
-    c.args.searches c.if-searches.true c.search_depth.ensures (tree_of c.check.ensures c.in-Accepted.is) c.build_search-places.ensures
+    c.args.searches c.if-searches.true (omega arith) (tree_of c.check.ensures c.in-Accepted.is) c.build_search-places.ensures
 
 pub returns-else-searches : goal.returns-else-searches
 returns-else-searches c =
