@@ -2,4 +2,3 @@
 pub mod Scanning
 pub mod Searching
 pub mod Calling
-pub mod Promises
