@@ -1,6 +1,6 @@
 -- A table is ready in one way only: an accepted pattern has one tree, and all else is equations and orders. So that it is ready somehow says how.
 use Prim.Native.Nat.{ℕ, ◌*◌, ◌≤◌, ◌<◌}
-use mathlib.Core.Path.{◌≡◌, refl, sym, ap, ◌∙◌, contract}
+use mathlib.Core.Path.{◌≡◌, sym, ap, subst, ◌∙◌, contract}
 use mathlib.Core.Bool.{Bool}
 use mathlib.Core.List.{List, [], ◌∷◌}
 use mathlib.Core.Logic.{∥∥₁_elim}
@@ -107,3 +107,8 @@ module _ (pattern code : List ℕ) (searches : Bool) (places deep : ℕ) where
 -- what is known of a table that is ready somehow
 pub ready_of : {pattern code : List ℕ} {searches : Bool} {places deep : ℕ} → ∥ Ready pattern code searches places deep ∥₁ → Ready pattern code searches places deep
 ready_of {pattern} {code} {searches} {places} {deep} somehow = only pattern code searches places deep somehow
+
+-- and of one that was built for a search, or for a whole match
+pub ready_as : {pattern code : List ℕ} {searches built : Bool} {places deep : ℕ} → searches ≡ built → ∥ Ready pattern code searches places deep ∥₁
+    → Ready pattern code built places deep
+ready_as {pattern} {code} {places = places} {deep} is somehow = subst (λ (b : Bool). Ready pattern code b places deep) is (ready_of somehow)

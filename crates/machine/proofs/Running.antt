@@ -12,18 +12,20 @@ use Rattle.paper.specs.Limits.{line_bytes, absent}
 use Rattle.paper.specs.Refusal.{accepted}
 use Rattle.paper.specs.Pattern.{Pattern}
 use Rattle.paper.specs.Check.{pattern_of}
-use Rattle.paper.specs.Rows.{Rows, no_rows, set_row}
+use Rattle.paper.specs.Rows.{Rows, no_rows}
 use Rattle.paper.specs.Machine.{Place, at, Stopped, matched, unmatched, run, pairs, machine, steps_of, rows_of}
-use Rattle.paper.specs.Match.{with_row0, whole_match, wrap, search, match_steps, search_steps}
+use Rattle.paper.specs.Match.{with_row0, wrap, is_match, rows_or_none}
 use Rattle.paper.specs.Replace.{moved_by, moved, moved_stopped}
 use Rattle.paper.proofs.machine.MachineReads.{machine_matches, machine_searches}
 use Rattle.paper.proofs.machine.MovedMachine.{steps_moved, rows_moved, machine_moved}
 use Rattle.visit.specs.Wired.{Wired}
 use Rattle.std.specs.Prelude as rust
+use Rattle.std.specs.Prelude.{is_some, unwrap_or}
 use Rattle.run.specs.Steps.{Running, Runs, stopped_as}
 use Rattle.run.specs.declared.Ran.{Ran}
 use Rattle.machine.specs.Machine.{wrapped, first_group, Ready, RunsFrom, found_of, MatchGives, SearchGives}
-use Rattle.machine.specs.Scratch.{lists_numbers, pending_numbers}
+use Rattle.machine.specs.declared.scratch.Scratch.{Scratch}
+use Rattle.machine.specs.Scratch.{lists_numbers, pending_numbers, Lasts, Runnable}
 use Rattle.machine.proofs.Wiring.{ready_places, ready_pairs, ready_wired}
 
 -- a machine that is ready can be run in scratch of its sizes
@@ -120,3 +122,41 @@ module _ (pattern code line : List ℕ) (places deep : ℕ) (ran : Ran) where
             ∙ rows_moved from (machine (wrap e) 0 rest)
             ∙ ap (map (moved from)) (machine_searches e rest);
       }
+
+-- What a run tells
+
+-- whether it matched
+pub match_read : (rows : rust.Option Rows) → is_some rows ≡ is_match (found_of rows)
+match_read (rust.Some rows) = refl
+match_read rust.None = refl
+
+-- its rows, or none present
+pub rows_written : (rows : rust.Option Rows) → unwrap_or rows no_rows ≡ rows_or_none (found_of rows)
+rows_written (rust.Some rows) = refl
+rows_written rust.None = refl
+
+-- scratch that lasts
+pub lasts_start : {scratch : Scratch} → Lasts scratch scratch
+lasts_start = record { seen_same = refl; taken_same = refl; lists_same = refl; pending_same = refl }
+
+pub lasts_on : {a b c : Scratch} → Lasts a b → Lasts b c → Lasts a c
+lasts_on k m = record {
+  seen_same = m.seen_same ∙ k.seen_same;
+  taken_same = m.taken_same ∙ k.taken_same;
+  lists_same = m.lists_same ∙ k.lists_same;
+  pending_same = m.pending_same ∙ k.pending_same;
+}
+
+-- a machine that can run from the line's start can run again from any position of it
+pub runs_on : {places deep : ℕ} {line : List ℕ} {from : ℕ} {scratch scratch' : Scratch} → Runnable places deep line 0 scratch → Lasts scratch scratch'
+    → from ≤ length line → Runnable places deep line from scratch'
+runs_on r lasts inside = record {
+  short = r.short;
+  starts = inside;
+  roomy = record {
+    seen_long = omega (arith, r.roomy.seen_long, lasts.seen_same);
+    taken_long = omega (arith, r.roomy.taken_long, lasts.taken_same);
+    lists_long = omega (arith, r.roomy.lists_long, lasts.lists_same);
+    pending_long = omega (arith, r.roomy.pending_long, lasts.pending_same);
+  };
+}

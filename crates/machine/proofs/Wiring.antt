@@ -8,7 +8,7 @@ use mathlib.Core.List.{List}
 use lib.Dec.{leb, ltb}
 use lib.ListN.{length, get_or}
 use borrow.Author.Tests.{leb-true, ltb-true}
-use Rattle.paper.specs.Limits.{pattern_levels, row_count, line_bytes}
+use Rattle.paper.specs.Limits.{pattern_levels, row_count}
 use Rattle.paper.specs.Pattern.{Pattern, all_places, depth, groups}
 use Rattle.paper.specs.Layout.{Lawful}
 use Rattle.paper.specs.Machine.{Place, stop, places_of, pairs}

@@ -9,10 +9,9 @@ ghost use Rattle.machine.specs.Scratch.{Runnable, Lasts};
 
 mod scratch;
 
-pub use scratch::{LargeScratch, OwnScratch, Scratch, Small, SmallScratch, is_small};
-
 use pattern::{Pattern, PlaceKind};
 use run::Ran;
+pub use scratch::{LargeScratch, OwnScratch, Scratch, Small, SmallScratch, is_small};
 
 // A machine as `build` leaves it: its pattern, its table, whether it is for a search, and how many places it has and how deep they are.
 #[derive(Clone, Copy)]

@@ -38,18 +38,38 @@ pub fn is_small(places: usize, depth: usize) -> bool
 
 // Scratch of a call's own.
 #[derive(Drop)]
-pub struct OwnScratch<const PAIRS: usize, const PLACES: usize, const LISTS: usize, const PENDING: usize> {
+pub struct OwnScratch<
+    const PAIRS: usize,
+    const PLACES: usize,
+    const LISTS: usize,
+    const PENDING: usize,
+> {
     seen: [u16; PAIRS],
     taken: [u16; PLACES],
     lists: [u16; LISTS],
     pending: [u16; PENDING],
 }
 
-pub type LargeScratch = OwnScratch<{ Machine::PAIRS }, { Machine::PLACES }, { Machine::LISTS }, { Machine::PENDING }>;
+pub type LargeScratch = OwnScratch<
+    { Machine::PAIRS },
+    { Machine::PLACES },
+    { Machine::LISTS },
+    { Machine::PENDING },
+>;
 
-pub type SmallScratch = OwnScratch<{ Small::PAIRS }, { Small::PLACES }, { Small::LISTS }, { Small::PENDING }>;
+pub type SmallScratch = OwnScratch<
+    { Small::PAIRS },
+    { Small::PLACES },
+    { Small::LISTS },
+    { Small::PENDING },
+>;
 
-impl<const PAIRS: usize, const PLACES: usize, const LISTS: usize, const PENDING: usize> OwnScratch<PAIRS, PLACES, LISTS, PENDING> {
+impl<const PAIRS: usize, const PLACES: usize, const LISTS: usize, const PENDING: usize> OwnScratch<
+    PAIRS,
+    PLACES,
+    LISTS,
+    PENDING,
+> {
     pub fn new() -> Self
         requires { (PAIRS < 2 ^ 32) × (PLACES < 2 ^ 32) × (LISTS < 2 ^ 32) × (PENDING < 2 ^ 32) }
     {

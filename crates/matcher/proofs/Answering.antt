@@ -13,7 +13,6 @@ use Rattle.paper.specs.Refusal.{Checked, refused, accepted, ◌>>=◌, ◌>>◌,
 use Rattle.paper.specs.Pattern.{Pattern}
 use Rattle.paper.specs.Layout.{Lawful}
 use Rattle.paper.specs.Check.{pattern_of}
-use Rattle.std.specs.Prelude as rust
 use Rattle.std.specs.Prelude.{is_some, unwrap_or}
 use Rattle.paper.specs.Rows.{Rows, no_rows}
 use Rattle.paper.specs.Match.{whole_match, search, match_steps, search_steps, Found, line_and_table, counted, match_call, search_call, is_match, rows_or_none, table_after, Told, told}
@@ -24,8 +23,8 @@ use Rattle.matcher.specs.declared.Answer.TheVariants.{Refused, Match, NoMatch}
 use Rattle.matcher.specs.Answer.{answer_of, steps_told, TellsSteps}
 use Rattle.matcher.specs.Promise.{Matches, Searches, Answers}
 use Rattle.run.specs.declared.Ran.{Ran}
-use Rattle.machine.specs.Machine.{found_of as run_rows, Gives, FoundGives}
-use Rattle.machine.proofs.Running.{found_stays}
+use Rattle.machine.specs.Machine.{Gives, FoundGives}
+use Rattle.machine.proofs.Running.{found_stays, match_read, rows_written}
 
 -- The one answer
 
@@ -58,18 +57,6 @@ one_match {a = a} {b = b} p q = (answers_differ a b (p.answer ∙ sym q.answer),
 pub one_search : {pattern line lent : List ℕ} {a b : Answer} {after after' : List ℕ} → Searches pattern line lent a after → Searches pattern line lent b after'
     → (a ≡ b) × (after ≡ after')
 one_search {a = a} {b = b} p q = (answers_differ a b (p.answer ∙ sym q.answer), p.table ∙ sym q.table)
-
--- What a run tells
-
--- whether it matched
-match_read : (rows : rust.Option Rows) → is_some rows ≡ is_match (run_rows rows)
-match_read (rust.Some rows) = refl
-match_read rust.None = refl
-
--- its rows, or none present
-rows_written : (rows : rust.Option Rows) → unwrap_or rows no_rows ≡ rows_or_none (run_rows rows)
-rows_written (rust.Some rows) = refl
-rows_written rust.None = refl
 
 -- Steps that can be told
 
