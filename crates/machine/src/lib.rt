@@ -44,21 +44,22 @@ pub fn build(pattern: &[u8], searches: bool, code: &mut [u16]) -> Built
     ensures { Builds pattern.now searches code.old code.new result }
 {
     match pattern::check(pattern) {
-        pattern::Answer::Refused { number, place } => Built::Refused { number, place },
-        pattern::Answer::Accepted {
-            places: told,
-            depth,
-            groups,
-        } => {
+        Err(refused) => Built::Refused {
+            number: refused.refusal.number(),
+            place: refused.place,
+        },
+        Ok(numbers) => {
+            let depth = numbers.depth;
+            let groups = numbers.groups;
             if searches {
-                let places = places::build_search(pattern, code, told - 1, groups);
+                let places = places::build_search(pattern, code, numbers.places - 1, groups);
                 Built::Machine {
                     places,
                     depth: depth.max(1),
                     groups,
                 }
             } else {
-                let places = places::build_match(pattern, code, told - 1, groups);
+                let places = places::build_match(pattern, code, numbers.places - 1, groups);
                 Built::Machine {
                     places,
                     depth,

@@ -3,7 +3,7 @@ ghost use Rattle.printer.specs.Gathered.{Gathered};
 
 use crate::cases::{Call, Case};
 use crate::jobs;
-use pattern::Spans;
+use pattern::{Numbers, Spans};
 use printer::Printer;
 
 // What each byte of a buffer is before the call, so that what the call leaves of it can be told.
@@ -67,12 +67,12 @@ fn check(pattern: &[u8], p: &mut Printer)
     ensures { Gathered p.old p.new }
 {
     match pattern::check(pattern) {
-        pattern::Answer::Refused { number, place } => p.refusal(number, place),
-        pattern::Answer::Accepted {
+        Err(refused) => p.refusal(refused.refusal.number(), refused.place),
+        Ok(Numbers {
             places,
             depth,
             groups,
-        } => {
+        }) => {
             p.bytes(b"ok");
             print_numbers(&[places as u64, depth as u64, groups as u64], p);
         }
@@ -82,8 +82,8 @@ fn check(pattern: &[u8], p: &mut Printer)
 // How many groups a pattern has, for printing its rows.
 fn groups_of(pattern: &[u8]) -> usize {
     match pattern::check(pattern) {
-        pattern::Answer::Refused { .. } => 0,
-        pattern::Answer::Accepted { groups, .. } => groups,
+        Err(_) => 0,
+        Ok(numbers) => numbers.groups,
     }
 }
 

@@ -3,7 +3,7 @@ ghost use Rattle.std.specs.Prelude.{◌≤◌, length};
 ghost use Rattle.printer.specs.Gathered.{Gathered};
 
 use job::{Body, Broken, Job};
-use pattern::Spans;
+use pattern::{Numbers, Spans};
 use printer::Printer;
 
 pub fn pick(job: &[u8], p: &mut Printer)
@@ -25,15 +25,15 @@ fn print_job(bytes: &[u8], p: &mut Printer) -> Result<(), Broken>
     };
     let pattern = &bytes[start..end];
     match pattern::check(pattern) {
-        pattern::Answer::Refused { number, place } => {
-            job::print_refused(p, number, place);
+        Err(refused) => {
+            job::print_refused(p, refused.refusal.number(), refused.place);
             Ok(())
         }
-        pattern::Answer::Accepted {
+        Ok(Numbers {
             places,
             depth,
             groups,
-        } => {
+        }) => {
             job::print_numbers(p, places, depth, groups);
             print_lines(bytes, end, pattern, groups, p)
         }
