@@ -25,7 +25,7 @@ fn all_lines(
     requires built { machine.searches ≡ false }
     requires roomy { Roomy machine.places machine.depth scratch.old }
 {
-    for number in 1..u64::MAX {
+    for number in 1..=u64::MAX {
         input.fill();
         let bytes = input.bytes();
         let Some(body) = job::next_record(bytes, 0, bytes.len(), Job::LINE)? else {

@@ -68,11 +68,13 @@ fn check(pattern: &[u8], p: &mut Printer)
 {
     match pattern::check(pattern) {
         Err(refused) => p.refusal(refused.refusal.number(), refused.place),
-        Ok(Numbers {
-            places,
-            depth,
-            groups,
-        }) => {
+        Ok(
+            Numbers {
+                places,
+                depth,
+                groups,
+            },
+        ) => {
             p.bytes(b"ok");
             print_numbers(&[places as u64, depth as u64, groups as u64], p);
         }

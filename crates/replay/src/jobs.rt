@@ -29,11 +29,13 @@ fn print_job(bytes: &[u8], p: &mut Printer) -> Result<(), Broken>
             job::print_refused(p, refused.refusal.number(), refused.place);
             Ok(())
         }
-        Ok(Numbers {
-            places,
-            depth,
-            groups,
-        }) => {
+        Ok(
+            Numbers {
+                places,
+                depth,
+                groups,
+            },
+        ) => {
             job::print_numbers(p, places, depth, groups);
             print_lines(bytes, end, pattern, groups, p)
         }
