@@ -1,39 +1,26 @@
--- The call's answers, by its tests in their order: each refusal where the tests before it pass, and the scan where all do.
-use Prim.Native.Nat.{ℕ, ◌≤◌, ◌<◌, zero-le}
-use mathlib.Core.Path.{◌≡◌, refl, sym, ap, subst, ◌∙◌}
-use mathlib.Core.Bool.{Bool, true, false}
-use mathlib.Core.List.{List, [], ◌++◌}
+-- The call's answer where all of its tests pass: the scan's, and its output at the buffer's front.
+use Prim.Native.Nat.{ℕ, ◌≤◌}
+use mathlib.Core.Path.{◌≡◌, sym, ap, subst, ◌∙◌}
+use mathlib.Core.Bool.{Bool, true}
+use mathlib.Core.List.{List, ◌++◌}
 use native.Mathlib.Omega.{arith}
 use lib.Dec.{leb}
 use lib.ListN.{length, drop, take-append-drop}
-use borrow.Author.Tests.{le-leb, lt-leb}
+use borrow.Author.Tests.{le-leb}
 use Rattle.paper.specs.Limits.{line_bytes}
-use Rattle.paper.specs.Refusal.{Checked, refused, accepted, ◌>>=◌, ◌>>◌, holds, line_too_long, output_too_long}
+use Rattle.paper.specs.Refusal.{Checked, accepted, ◌>>=◌, ◌>>◌, holds, line_too_long, output_too_long}
 use Rattle.paper.specs.Pattern.{Pattern, groups}
 use Rattle.paper.specs.Check.{pattern_of}
 use Rattle.paper.specs.Template.{Piece, template_of, within}
 use Rattle.paper.specs.Bounds.{replace_bound}
 use Rattle.paper.specs.Replace.{Scanned, replace_all, replace_call, replace_answer, buffer_after}
 use Rattle.paper.proofs.replacing.ReplaceBound.{replace_all_steps}
-use Rattle.template.specs.Record.{references_call}
-use Rattle.template.proofs.Reading.{references_right, references_refused}
-use Rattle.std.proofs.Common.{Ok, Err}
-use Rattle.pattern.specs.declared.Refused.{Refused}
-use Rattle.pattern.specs.declared.Refusal.TheVariants.{LineTooLong, OutputTooLong}
-use Rattle.pattern.specs.Refusals.{number_of}
+use Rattle.std.proofs.Common.{Ok}
 use Rattle.replacer.specs.declared.Replaced.{Replaced}
 use Rattle.turns.specs.Appended.{Appended}
-use Rattle.turns.specs.Accepted.{accepted_or, pieces_of, Right}
-use Rattle.replacer.specs.Given.{tree_of, Replaceable, whole_of}
+use Rattle.turns.specs.Accepted.{pieces_of, Right}
+use Rattle.replacer.specs.Given.{tree_of, whole_of}
 use Rattle.replacer.specs.Promise.{Replaces}
-use Rattle.replacer.proofs.Scanning.{ready_tree}
-
--- references that are within: the template is accepted
-pub references_accepted : (template : List ℕ) (count : ℕ) → accepted tt ≡ references_call template count → Right template × (within (pieces_of template) count ≡ accepted tt)
-references_accepted template count is =
-    let (pieces, found, low) = references_right template count is in
-    let same : pieces_of template ≡ pieces = ap (accepted_or []) found in
-    (found ∙ ap accepted (sym same), ap (λ (l : List Piece). within l count) same ∙ low)
 
 -- bytes appended to a buffer from its front on: behind them it is as it was
 pub written_whole : {entry exit bytes : List ℕ} {end : ℕ} → Appended entry exit 0 bytes end → exit ≡ bytes ++ drop (length bytes) entry
@@ -46,15 +33,6 @@ written_whole {entry} {exit} {bytes} {end} wrote =
 -- ---- the call
 
 module _ (pattern template line lent : List ℕ) where
-  -- a refusal of the definition is promised as it is, and the buffer stays
-  refuses : (r : Refused) → replace_call pattern template line lent ≡ refused (number_of r.refusal) r.place → Replaces pattern template line lent (Err r) lent
-  refuses r is =
-      record {
-        answer = sym (ap replace_answer is);
-        buffer = sym (ap (λ (c : Checked Scanned). buffer_after c lent) is);
-        bound = λ e found. zero-le;
-      }
-
   -- what comes after the pattern
   abbrev after_pattern : Pattern → Checked Scanned
   after_pattern e =
@@ -67,23 +45,7 @@ module _ (pattern template line lent : List ℕ) where
   by_pattern : (found : Checked Pattern) → pattern_of pattern ≡ found → replace_call pattern template line lent ≡ found >>= after_pattern
   by_pattern found is = ap (λ (c : Checked Pattern). c >>= after_pattern) is
 
-  -- 1 to 8
-  pub refuses_pattern : (r : Refused) → pattern_of pattern ≡ refused (number_of r.refusal) r.place → Replaces pattern template line lent (Err r) lent
-  refuses_pattern r is = refuses r (by_pattern (refused (number_of r.refusal) r.place) is)
-
   module _ (accepts : pattern_of pattern ≡ accepted (tree_of pattern)) where
-    -- 9 and 10
-    pub refuses_template : (r : Refused) → refused (number_of r.refusal) r.place ≡ references_call template (groups (tree_of pattern))
-        → Replaces pattern template line lent (Err r) lent
-    refuses_template r is =
-        refuses r
-        (by_pattern (accepted (tree_of pattern)) accepts
-        ∙ references_refused template (groups (tree_of pattern)) (number_of r.refusal) r.place is
-        (λ pieces.
-        holds (leb (length line) line_bytes) line_too_long 0 >>
-        (let scanned = replace_all (tree_of pattern) template pieces line in
-        holds (leb (length scanned.output) (length lent)) output_too_long 0 >> accepted scanned)))
-
     module _ (right : Right template) (low : within (pieces_of template) (groups (tree_of pattern)) ≡ accepted tt) where
       abbrev output : ℕ
       output = length (whole_of pattern template line).output
@@ -110,17 +72,8 @@ module _ (pattern template line lent : List ℕ) where
           by_template
           ∙ (λ i. holds (s i) line_too_long 0 >> (holds (r i) output_too_long 0 >> accepted (whole_of pattern template line)))
 
-      -- 11
-      pub refuses_line : line_bytes < length line → Replaces pattern template line lent (Err (record { refusal = LineTooLong; place = 0 })) lent
-      refuses_line long = refuses (record { refusal = LineTooLong; place = 0 }) (by_tests false (leb output (length lent)) (lt-leb (length line) line_bytes long) refl)
-
       module _ (small : length line ≤ line_bytes) where
-        -- 13
-        pub refuses_output : length lent < output → Replaces pattern template line lent (Err (record { refusal = OutputTooLong; place = 0 })) lent
-        refuses_output long =
-            refuses (record { refusal = OutputTooLong; place = 0 }) (by_tests true false (le-leb (length line) line_bytes small) (lt-leb output (length lent) long))
-
-        -- and the scan's output, where it has room
+        -- the scan's output, where it has room
         pub replaces : output ≤ length lent → (r : Replaced) → r.length ≡ output → r.replacements ≡ (whole_of pattern template line).replaced
             → r.steps ≡ (whole_of pattern template line).steps → (after : List ℕ) → after ≡ (whole_of pattern template line).output ++ drop output lent
             → Replaces pattern template line lent (Ok r) after

@@ -2,3 +2,4 @@
 pub mod Scanning
 pub mod Searching
 pub mod Calling
+pub mod Promises

@@ -19,7 +19,7 @@ use Rattle.paper.specs.ScanTurn as paper
 use Rattle.paper.specs.ScanTurn.{turn_at, turn_bytes, TurnFits}
 use Rattle.paper.proofs.replacing.ReplaceBound.{most_sum, replace_all_most}
 use Rattle.paper.proofs.replacing.ScanWays.{turn_count, turn_rest, ended, turn_fits, scan_from, scan_whole, scan_turn}
-use Rattle.paper.proofs.replacing.ScanLengths.{most_output, replace_all_short}
+use Rattle.paper.proofs.replacing.ScanLengths.{replace_all_short}
 use Rattle.machine.specs.Machine.{Ready}
 use Rattle.turns.specs.declared.Turn.{Turn}
 use Rattle.turns.specs.Accepted.{accepted_or, pieces_of, Right}

@@ -1,7 +1,7 @@
 -- From what a search gives to the turn that it makes: a match that is found lies ahead of where the search began, and inside the line.
 use Prim.Native.Nat.{ℕ, ◌≤◌}
 use mathlib.Core.Path.{◌≡◌, refl, sym, ap, subst, ◌∙◌}
-use mathlib.Core.Bool.{Bool, true}
+use mathlib.Core.Bool.{true}
 use mathlib.Core.List.{List}
 use mathlib.Core.Option as math
 use lib.ListN.{length, drop}

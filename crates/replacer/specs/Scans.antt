@@ -1,5 +1,5 @@
 -- What a search of the scan and the scan of the whole line promise.
-use Rattle.std.specs.Prelude.{ℕ, ◌≡◌, Option, List, length, drop}
+use Rattle.std.specs.Prelude.{ℕ, ◌≡◌, Option, List, drop}
 use Rattle.paper.specs.Match.{search_steps}
 use Rattle.paper.specs.ScanTurn.{turn_at}
 use Rattle.turns.specs.declared.Turn.{Turn}

@@ -7,7 +7,7 @@ use mathlib.Core.Bool.{Bool, true, false, cond, ◌&&◌}
 use mathlib.Core.List.{List, [], ◌∷◌}
 use lib.Dec.{leb, eqb}
 use lib.ListN.{length, drop, length-drop}
-use borrow.Author.Tests.{le-leb, leb-true}
+use borrow.Author.Tests.{leb-true}
 use Rattle.paper.specs.Limits.{pattern_groups, line_bytes, table_numbers}
 use Rattle.paper.specs.Refusal.{Checked, refused, accepted, ◌>>=◌, ◌>>◌, holds, template_wrong, line_too_long, table_too_short, row_wrong, no_such_piece}
 use Rattle.paper.specs.Rows.{Rows, row_start, row_end}
@@ -78,16 +78,13 @@ module _ (template line table : List ℕ) (number : ℕ) where
   by_template found is = ap (λ (t : Checked (List Piece)). t >>= λ pieces. line_and_table line table >> span_at pieces number (length line) table) (sym is)
 
   module _ (pieces : List Piece) (is : template_of template ≡ accepted pieces) where
-    module _ (fits : length line ≤ line_bytes) where
-      -- and what is left to the record
-      pub call_rest : table_numbers ≤ length table → span_at pieces number (length line) table ≡ piece_call template line table number
-      call_rest long = sym by_both ∙ by_template (accepted pieces) is
-        where
-          by_both : (line_and_table line table >> span_at pieces number (length line) table) ≡ span_at pieces number (length line) table
-          by_both = rw (le-leb (length line) line_bytes fits, le-leb table_numbers (length table) long)
+    module _ (lent : accepted tt ≡ line_and_table line table) where
+      -- what is left to the record
+      pub call_rest : span_at pieces number (length line) table ≡ piece_call template line table number
+      call_rest = ap (λ (t : Checked (Unit {0})). t >> span_at pieces number (length line) table) lent ∙ by_template (accepted pieces) is
 
-      pub call_16 : table_numbers ≤ length table → length pieces ≤ number → refused no_such_piece 0 ≡ piece_call template line table number
-      call_16 long past = sym (span_at_past pieces number past (length line) table) ∙ call_rest long
+      pub call_16 : length pieces ≤ number → refused no_such_piece 0 ≡ piece_call template line table number
+      call_16 past = sym (span_at_past pieces number past (length line) table) ∙ call_rest
 
 -- ---- every part that is answered lies in its source
 

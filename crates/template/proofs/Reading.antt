@@ -11,12 +11,12 @@ use borrow.Author.Tests.{ltb-true, ltb-false, leb-true}
 use Rattle.paper.specs.Limits.{template_bytes}
 use Rattle.paper.specs.Refusal.{Checked, refused, accepted, ◌>>=◌, ◌>>◌, holds, template_wrong}
 use Rattle.paper.specs.Check.{body_end, kind_at}
-use Rattle.paper.specs.Template.{Piece, piece_of_kind, piece_at, pieces_from, template_of, within}
+use Rattle.paper.specs.Template.{Piece, piece_of_kind, piece_at, pieces_from, template_of}
 use Rattle.std.proofs.Common.{None, Some}
 use Rattle.template.specs.declared.Record.{Record}
 use Rattle.template.specs.declared.Records.{Records}
 use Rattle.template.specs.Records.{Goes}
-use Rattle.template.specs.Record.{Shows, From, piece_of, record_count, references_call}
+use Rattle.template.specs.Record.{Shows, From, piece_of, record_count}
 
 -- nothing is refused and accepted
 pub never : {A B : Type 0} {number place : ℕ} {a : A} → refused number place ≡ accepted a → B
@@ -114,25 +114,3 @@ counted_right bs count is = look (template_of bs) refl is
         → (pieces : List Piece) × (template_of bs ≡ accepted pieces) × (count ≡ length pieces)
     look (refused number at) found is = never (sym is)
     look (accepted pieces) found is = (pieces, found, cc)
-
--- ---- what the references tell
-
--- none is too high: the template's pieces, and that they are within
-pub references_right : (bs : List ℕ) (groups : ℕ) → accepted tt ≡ references_call bs groups
-    → (pieces : List Piece) × (template_of bs ≡ accepted pieces) × (within pieces groups ≡ accepted tt)
-references_right bs groups is = look (template_of bs) refl is
-  where
-    look : (found : Checked (List Piece)) → template_of bs ≡ found → accepted tt ≡ (found >>= λ pieces. within pieces groups)
-        → (pieces : List Piece) × (template_of bs ≡ accepted pieces) × (within pieces groups ≡ accepted tt)
-    look (refused number at) found is = never (sym is)
-    look (accepted pieces) found is = (pieces, found, sym is)
-
--- 9 or 10 ends a call, whatever would come next
-pub references_refused : {A : Type 0} (bs : List ℕ) (groups number place : ℕ) → refused number place ≡ references_call bs groups
-    → (next : List Piece → Checked A) → (template_of bs >>= λ pieces. within pieces groups >> next pieces) ≡ refused number place
-references_refused bs groups number place is next = look (template_of bs) is
-  where
-    look : (found : Checked (List Piece)) → refused number place ≡ (found >>= λ pieces. within pieces groups)
-        → (found >>= λ pieces. within pieces groups >> next pieces) ≡ refused number place
-    look (refused n p) is = cc
-    look (accepted pieces) is = rw (sym is)

@@ -11,7 +11,7 @@ ghost use Rattle.paper.specs.PieceCalls.{row_span, piece_call};
 ghost use Rattle.template.specs.Record.{Shows, next_of, count_of, record_count, references_of, references_call, Lawful};
 ghost use Rattle.template.specs.Answer.{span_of, answer_of, Inside, IsPart};
 
-use pattern::{Line, Pattern, Refusal, Refused, Spans, Template};
+use pattern::{Pattern, Refusal, Refused, Spans, Template};
 use records::{Header, header_at, number_at};
 
 // Where a piece's bytes stand.
@@ -64,7 +64,7 @@ pub enum Record {
 
 impl Record {
     // Where the next record stands.
-    pub fn next(self) -> usize
+    fn next(self) -> usize
         ensures { result ≡ next_of self }
     {
         match self {
@@ -195,12 +195,7 @@ pub fn piece(template: &[u8], line: &[u8], table: &[u16], number: usize) -> Resu
     ensures { answer_of result ≡ piece_call template.now line.now table.now number }
 {
     check_template(template)?;
-    if Line::BYTES < line.len() {
-        return Err(Refusal::LineTooLong.at(0));
-    }
-    if table.len() < Spans::NUMBERS {
-        return Err(Refusal::TableTooShort.at(0));
-    }
+    pattern::lent(line, table)?;
     match Records::new(template).nth(number) {
         None => Err(Refusal::NoSuchPiece.at(0)),
         Some((_, Record::Literal { start, end })) => Ok(Span::new(Source::Template, start, end)),

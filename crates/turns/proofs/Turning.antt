@@ -4,7 +4,7 @@ use mathlib.Core.Path.{◌≡◌, refl, ap}
 use mathlib.Core.Bool.{Bool, true, false, cond}
 use mathlib.Core.List.{List, [], ◌++◌}
 use Rattle.paper.specs.Check.{part}
-use Rattle.paper.specs.Rows.{Rows, no_rows, RowsFit}
+use Rattle.paper.specs.Rows.{no_rows, RowsFit}
 use Rattle.paper.specs.Template.{Piece}
 use Rattle.paper.specs.Replace.{put_in}
 use Rattle.paper.specs.ScanTurn.{Turn, turn_bytes, TurnFits}

@@ -1,9 +1,9 @@
 -- The laws of the two outputs: nothing appended, one after another, and the room that is left.
-use Prim.Native.Nat.{ℕ, ◌+◌, ◌-◌, ◌≤◌, ◌<◌}
+use Prim.Native.Nat.{ℕ, ◌+◌, ◌-◌}
 use mathlib.Core.Path.{◌≡◌, refl, sym, ap, ◌∙◌}
 use mathlib.Core.List.{List, [], ◌++◌, append-nil, append_assoc}
 use native.Mathlib.Omega.{arith}
-use lib.ListN.{length, take, drop, length-append}
+use lib.ListN.{take, drop, length-append}
 use lib.Seq.{drop-drop}
 use Rattle.turns.specs.declared.output.Length.{Length}
 use Rattle.turns.specs.declared.output.Buffer.{Buffer}

@@ -3,7 +3,7 @@ use Rattle.std.proofs.Common.{arith, rules, ◌∙◌, ◌≡◌, ◌+◌, List,
 use Rattle.paper.proofs.replacing.ScanLengths.{replace_all_short}
 use Rattle.turns.specs.Accepted.{pieces_of}
 use Rattle.replacer.specs.Given.{tree_of, whole_of}
-use Rattle.replacer.proofs.Calling.{refuses_output, replaces, written_whole}
+use Rattle.replacer.proofs.Calling.{replaces, written_whole}
 use Rattle.replacer.proofs.replace_in.Goals as goal
 
 pub scan-scanned-requires-clause-room : goal.scan-scanned-requires-clause-room

@@ -9,7 +9,7 @@ loop-count-preserved c =
 pub returns-then-records-template : goal.returns-then-records-template
 returns-then-records-template c =
     let l = c.loop-count in
-    rw (c.at-then-records-template.ensures.0, c.at-then-records-template.ensures.1)
+    rw c.at-then-records-template.ensures
     (count_stops c.args.template.now l.records c.next.new.self l.count l.invariant.0 l.invariant.1 c.in_default.ensures.steps
     c.if-template-gt-BYTES.false c.if-records-template.true)
 

@@ -7,7 +7,7 @@ loop-at-init c =
 
 pub returns-then-groups-row : goal.returns-then-groups-row
 returns-then-groups-row c pieces all =
-    rw (c.at.ensures.0, c.at.ensures.1)
+    rw c.at.ensures
     (seek_high c.args.template.now c.args.groups c.loop-at.at-iterator c.next.new.self c.loop-at.invariant.2 c.in-Some.at c.in-Some.record c.in-Some.ensures.steps
     c.in-Reference.row c.in-Reference.next c.in-Reference.is c.if-groups-row.true pieces all)
 

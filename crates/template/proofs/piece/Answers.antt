@@ -11,8 +11,8 @@ pub returns-in-None : goal.returns-in-None
 returns-in-None c =
     let (pieces, is, all) = counted_right c.args.template.now c.in_ok-check_template.field-0 c.in_ok-check_template.ensures in
     let past = nth_none c.args.template.now c.new.result c.nth.new.self c.args.number c.new.ensures pieces is c.in-None.ensures.ran in
-    rw (c.at-in-None.ensures.0, c.at-in-None.ensures.1)
-    (call_16 c.args.template.now c.args.line.now c.args.table.now c.args.number pieces is c.if-line-gt-BYTES.false c.if-table-lt-NUMBERS.false past)
+    rw c.at.ensures
+    (call_16 c.args.template.now c.args.line.now c.args.table.now c.args.number pieces is c.in_ok-lent.ensures past)
 
 pub returns-in-Some-default-Literal : goal.returns-in-Some-default-Literal
 returns-in-Some-default-Literal c =
@@ -22,7 +22,7 @@ returns-in-Some-default-Literal c =
     (ap (λ (r : Record). span_of (piece_of some.field-0-0 r) (length c.args.line.now) c.args.table.now) (sym some.field-0-1-is)
     ∙ nth_given c.args.template.now c.new.result c.nth.new.self c.args.number c.new.ensures pieces is some.field-0-0 some.field-0-1 some.ensures.ran
     (length c.args.line.now) c.args.table.now
-    ∙ call_rest c.args.template.now c.args.line.now c.args.table.now c.args.number pieces is c.if-line-gt-BYTES.false c.if-table-lt-NUMBERS.false)
+    ∙ call_rest c.args.template.now c.args.line.now c.args.table.now c.args.number pieces is c.in_ok-lent.ensures)
 
 pub returns-in-Some-default-Reference : goal.returns-in-Some-default-Reference
 returns-in-Some-default-Reference c =
@@ -32,4 +32,4 @@ returns-in-Some-default-Reference c =
     ∙ ap (λ (r : Record). span_of (piece_of some.field-0-0 r) (length c.args.line.now) c.args.table.now) (sym some.field-0-1-is)
     ∙ nth_given c.args.template.now c.new.result c.nth.new.self c.args.number c.new.ensures pieces is some.field-0-0 some.field-0-1 some.ensures.ran
     (length c.args.line.now) c.args.table.now
-    ∙ call_rest c.args.template.now c.args.line.now c.args.table.now c.args.number pieces is c.if-line-gt-BYTES.false c.if-table-lt-NUMBERS.false
+    ∙ call_rest c.args.template.now c.args.line.now c.args.table.now c.args.number pieces is c.in_ok-lent.ensures

@@ -1,5 +1,4 @@
 -- `scan` meets its contract: what is appended and counted and what the scan gives from here on make up the whole at each turn.
-use Rattle.std.proofs.Common.{◌≡◌}
 use Rattle.machine.specs.Scratch.{Lasts}
 use Rattle.replacer.proofs.Scanning.{Scanning, ahead}
 use Rattle.replacer.proofs.scans.scan.Given as goal

@@ -1,5 +1,5 @@
 -- `write` meets its contract: where all of a turn's bytes have room, the three runs that they are made of have.
-use Rattle.std.proofs.Common.{Option, ℕ, List, [], ◌++◌, None, cond, length, subst, sym}
+use Rattle.std.proofs.Common.{Option, ℕ, List, [], ◌++◌, cond, length, subst, sym}
 use Rattle.std.specs.Option.{is_some, unwrap_or}
 use Rattle.paper.specs.Check.{part}
 use Rattle.paper.specs.Rows.{Rows, no_rows, RowsFit}
