@@ -3,7 +3,7 @@ ghost use Rattle.printer.specs.Gathered.{Gathered};
 
 use crate::cases::{Call, Case};
 use crate::jobs;
-use pattern::{Numbers, Spans};
+use pattern::Spans;
 use printer::Printer;
 
 // What each byte of a buffer is before the call, so that what the call leaves of it can be told.
@@ -54,12 +54,12 @@ impl Call {
 }
 
 // Numbers, each after a space.
-fn print_numbers(numbers: &[u64], p: &mut Printer)
+fn print_numbers(numbers: &[usize], p: &mut Printer)
     ensures { Gathered p.old p.new }
 {
     for n in numbers {
         p.bytes(b" ");
-        p.decimal(*n);
+        p.decimal(*n as u64);
     }
 }
 
@@ -67,25 +67,11 @@ fn check(pattern: &[u8], p: &mut Printer)
     ensures { Gathered p.old p.new }
 {
     match pattern::check(pattern) {
-        Err(refused) => p.refusal(refused.refusal.number(), refused.place),
-        Ok(
-            Numbers {
-                places,
-                depth,
-                groups,
-            },
-        ) => {
+        Ok(numbers) => {
             p.bytes(b"ok");
-            print_numbers(&[places as u64, depth as u64, groups as u64], p);
+            print_numbers(&[numbers.places, numbers.depth, numbers.groups], p);
         }
-    }
-}
-
-// How many groups a pattern has, for printing its rows.
-fn groups_of(pattern: &[u8]) -> usize {
-    match pattern::check(pattern) {
-        Err(_) => 0,
-        Ok(numbers) => numbers.groups,
+        Err(refused) => p.refusal(refused.refusal.number(), refused.place),
     }
 }
 
@@ -95,7 +81,8 @@ fn find(call: Call, pattern: &[u8], line: &[u8], p: &mut Printer)
 {
     let mut table = Spans::absent_table();
     let answer = call.make(pattern, line, &mut table);
-    p.found(answer, table, groups_of(pattern));
+    let groups = pattern::check(pattern).map_or(0, |numbers| numbers.groups);
+    p.found(answer, table, groups);
 }
 
 // A match or a search in the table that the case gives, which is printed as the call leaves it.
@@ -147,7 +134,9 @@ fn replace(pattern: &[u8], template: &[u8], line: &[u8], buffer: &mut [u8], p: &
         } => {
             let (output, rest) = buffer.split_at(length);
             p.byte_string(output);
-            print_numbers(&[length as u64, replacements as u64, steps], p);
+            print_numbers(&[length, replacements], p);
+            p.bytes(b" ");
+            p.decimal(steps);
             print_change(rest, p);
         }
     }
@@ -175,7 +164,7 @@ fn piece(template: &[u8], line: &[u8], table: &[u16], number: usize, p: &mut Pri
         template::Answer::Line { start, end } => (b"line".as_slice(), start, end),
     };
     p.bytes(source);
-    print_numbers(&[start as u64, end as u64], p);
+    print_numbers(&[start, end], p);
     p.bytes(b" ");
     p.byte_string(template::part(template, line, table, number));
 }
