@@ -123,20 +123,16 @@ fn replace(pattern: &[u8], template: &[u8], line: &[u8], buffer: &mut [u8], p: &
 {
     buffer.fill(FILL);
     match replacer::replace_all(pattern, template, line, buffer) {
-        replacer::Replaced::Refused { number, place } => {
-            p.refusal(number, place);
+        Err(refused) => {
+            p.refusal(refused.refusal.number(), refused.place);
             print_change(buffer, p);
         }
-        replacer::Replaced::Done {
-            length,
-            replacements,
-            steps,
-        } => {
-            let (output, rest) = buffer.split_at(length);
+        Ok(done) => {
+            let (output, rest) = buffer.split_at(done.length);
             p.byte_string(output);
-            print_numbers(&[length, replacements], p);
+            print_numbers(&[done.length, done.replacements], p);
             p.bytes(b" ");
-            p.decimal(steps);
+            p.decimal(done.steps);
             print_change(rest, p);
         }
     }
@@ -155,16 +151,16 @@ fn print_change(rest: &[u8], p: &mut Printer)
 fn piece(template: &[u8], line: &[u8], table: &[u16], number: usize, p: &mut Printer)
     ensures { Gathered p.old p.new }
 {
-    let (source, start, end) = match template::piece(template, line, table, number) {
-        template::Answer::Refused { number, place } => {
-            p.refusal(number, place);
-            return;
+    match template::piece(template, line, table, number) {
+        Err(refused) => p.refusal(refused.refusal.number(), refused.place),
+        Ok(span) => {
+            p.bytes(match span.source {
+                Source::Template => b"template",
+                Source::Line => b"line",
+            });
+            print_numbers(&[span.start, span.end], p);
+            p.bytes(b" ");
+            p.byte_string(template::part(template, line, table, number));
         }
-        template::Answer::Template { start, end } => (b"template".as_slice(), start, end),
-        template::Answer::Line { start, end } => (b"line".as_slice(), start, end),
-    };
-    p.bytes(source);
-    print_numbers(&[start, end], p);
-    p.bytes(b" ");
-    p.byte_string(template::part(template, line, table, number));
+    }
 }
