@@ -100,7 +100,7 @@ one_replace_reply {pattern} {template} {line} {buffer} {buffer'} {buffer''} {out
     (λ h.
     let t = p.told h in
     let u = q.told h in
-    told_left (λ (r : replacing.Replaced). replaced_numbers (replaced.answer_of r))
+    told_left (λ (r : Result replacing.Replaced checking.Refused). replaced_numbers (replaced.answer_of r))
     (one_replaced pattern template line buffer t.0 u.0 buffer' buffer'' t.1 u.1) t.2 u.2)
 
 pub one_piece_reply : {template line table : List ℕ} {number : ℕ} {out : List ℕ} {status status' : ℕ} {after after' : List ℕ}

@@ -41,7 +41,7 @@ pub record SearchReplies (pattern line table table' out : List ℕ) (status : �
 pub record ReplaceReplies (pattern template line buffer buffer' out : List ℕ) (status : ℕ) (after : List ℕ) : Type 0 where
   pub short : length out < 3 → Untouched out status after × (buffer' ≡ buffer)
   pub told : 3 ≤ length out
-      → (r : replacing.Replaced) × Replaces pattern template line buffer r buffer' × Tells (replaced_numbers (replaced.answer_of r)) out status after
+      → (r : Result replacing.Replaced checking.Refused) × Replaces pattern template line buffer r buffer' × Tells (replaced_numbers (replaced.answer_of r)) out status after
 
 -- `toj_piece`: what a template record puts in, told
 pub record PieceReplies (template line table : List ℕ) (number : ℕ) (out : List ℕ) (status : ℕ) (after : List ℕ) : Type 0 where

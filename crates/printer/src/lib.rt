@@ -58,6 +58,7 @@ fn complain(errors: Stderr, program: &[u8], words: &[u8]) {
 }
 
 // Prints to standard output. Contracts see how many bytes are gathered; after a failed write there is no such number.
+// No Display: after an `Err` of `write!` a contract knows nothing of the printer, and `Gathered` is promised of each call, which may not change.
 #[derive(Drop)]
 pub struct Printer {
     to: Stdout,
@@ -133,6 +134,7 @@ impl Printer {
         ensures { Gathered self.old self.new }
     {
         let mut rest = s;
+        // no `for`: how much a turn gathers is known by the room alone
         while !rest.is_empty() {
             let Some(n) = self.room() else {
                 return;

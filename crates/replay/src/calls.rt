@@ -3,7 +3,7 @@ ghost use Rattle.printer.specs.Gathered.{Gathered};
 
 use crate::cases::{Call, Case};
 use crate::jobs;
-use pattern::{Numbers, Spans};
+use pattern::Spans;
 use printer::Printer;
 
 // What each byte of a buffer is before the call, so that what the call leaves of it can be told.
@@ -54,12 +54,12 @@ impl Call {
 }
 
 // Numbers, each after a space.
-fn print_numbers(numbers: &[u64], p: &mut Printer)
+fn print_numbers(numbers: &[usize], p: &mut Printer)
     ensures { Gathered p.old p.new }
 {
     for n in numbers {
         p.bytes(b" ");
-        p.decimal(*n);
+        p.decimal(*n as u64);
     }
 }
 
@@ -67,25 +67,11 @@ fn check(pattern: &[u8], p: &mut Printer)
     ensures { Gathered p.old p.new }
 {
     match pattern::check(pattern) {
-        Err(refused) => p.refusal(refused.refusal.number(), refused.place),
-        Ok(
-            Numbers {
-                places,
-                depth,
-                groups,
-            },
-        ) => {
+        Ok(numbers) => {
             p.bytes(b"ok");
-            print_numbers(&[places as u64, depth as u64, groups as u64], p);
+            print_numbers(&[numbers.places, numbers.depth, numbers.groups], p);
         }
-    }
-}
-
-// How many groups a pattern has, for printing its rows.
-fn groups_of(pattern: &[u8]) -> usize {
-    match pattern::check(pattern) {
-        Err(_) => 0,
-        Ok(numbers) => numbers.groups,
+        Err(refused) => p.refusal(refused.refusal.number(), refused.place),
     }
 }
 
@@ -95,7 +81,8 @@ fn find(call: Call, pattern: &[u8], line: &[u8], p: &mut Printer)
 {
     let mut table = Spans::absent_table();
     let answer = call.make(pattern, line, &mut table);
-    p.found(answer, table, groups_of(pattern));
+    let groups = pattern::check(pattern).map_or(0, |numbers| numbers.groups);
+    p.found(answer, table, groups);
 }
 
 // A match or a search in the table that the case gives, which is printed as the call leaves it.
@@ -136,18 +123,16 @@ fn replace(pattern: &[u8], template: &[u8], line: &[u8], buffer: &mut [u8], p: &
 {
     buffer.fill(FILL);
     match replacer::replace_all(pattern, template, line, buffer) {
-        replacer::Replaced::Refused { number, place } => {
-            p.refusal(number, place);
+        Err(refused) => {
+            p.refusal(refused.refusal.number(), refused.place);
             print_change(buffer, p);
         }
-        replacer::Replaced::Done {
-            length,
-            replacements,
-            steps,
-        } => {
-            let (output, rest) = buffer.split_at(length);
+        Ok(done) => {
+            let (output, rest) = buffer.split_at(done.length);
             p.byte_string(output);
-            print_numbers(&[length as u64, replacements as u64, steps], p);
+            print_numbers(&[done.length, done.replacements], p);
+            p.bytes(b" ");
+            p.decimal(done.steps);
             print_change(rest, p);
         }
     }
@@ -166,16 +151,16 @@ fn print_change(rest: &[u8], p: &mut Printer)
 fn piece(template: &[u8], line: &[u8], table: &[u16], number: usize, p: &mut Printer)
     ensures { Gathered p.old p.new }
 {
-    let (source, start, end) = match template::piece(template, line, table, number) {
-        template::Answer::Refused { number, place } => {
-            p.refusal(number, place);
-            return;
+    match template::piece(template, line, table, number) {
+        Err(refused) => p.refusal(refused.refusal.number(), refused.place),
+        Ok(span) => {
+            p.bytes(match span.source {
+                Source::Template => b"template",
+                Source::Line => b"line",
+            });
+            print_numbers(&[span.start, span.end], p);
+            p.bytes(b" ");
+            p.byte_string(template::part(template, line, table, number));
         }
-        template::Answer::Template { start, end } => (b"template".as_slice(), start, end),
-        template::Answer::Line { start, end } => (b"line".as_slice(), start, end),
-    };
-    p.bytes(source);
-    print_numbers(&[start as u64, end as u64], p);
-    p.bytes(b" ");
-    p.byte_string(template::part(template, line, table, number));
+    }
 }

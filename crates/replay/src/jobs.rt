@@ -3,7 +3,7 @@ ghost use Rattle.std.specs.Prelude.{◌≤◌, length};
 ghost use Rattle.printer.specs.Gathered.{Gathered};
 
 use job::{Body, Broken, Job};
-use pattern::{Numbers, Spans};
+use pattern::Spans;
 use printer::Printer;
 
 pub fn pick(job: &[u8], p: &mut Printer)
@@ -25,19 +25,13 @@ fn print_job(bytes: &[u8], p: &mut Printer) -> Result<(), Broken>
     };
     let pattern = &bytes[start..end];
     match pattern::check(pattern) {
+        Ok(numbers) => {
+            job::print_numbers(p, numbers.places, numbers.depth, numbers.groups);
+            print_lines(bytes, end, pattern, numbers.groups, p)
+        }
         Err(refused) => {
             job::print_refused(p, refused.refusal.number(), refused.place);
             Ok(())
-        }
-        Ok(
-            Numbers {
-                places,
-                depth,
-                groups,
-            },
-        ) => {
-            job::print_numbers(p, places, depth, groups);
-            print_lines(bytes, end, pattern, groups, p)
         }
     }
 }

@@ -12,6 +12,8 @@ ghost use Rattle.telling.specs.Told.{Numbered, Tells, check_numbers, found_numbe
 
 use matcher::Found;
 use pattern::{Numbers, Refused};
+use replacer::Replaced;
+use template::Span;
 
 // The status of an answer, which is no refusal's number.
 #[derive(Clone, Copy)]
@@ -74,29 +76,24 @@ pub fn tell_found(answer: Result<Found, Refused>, out: &mut [u64]) -> u32
 }
 
 // What a piece is.
-pub fn tell_piece(answer: template::Answer, out: &mut [u64]) -> u32
+pub fn tell_piece(answer: Result<Span, Refused>, out: &mut [u64]) -> u32
     requires { Numbered (piece.answer_of answer) × (3 ≤ length out.old) }
     ensures { Tells (span_numbers (piece.answer_of answer)) out.old result out.new }
 {
     match answer {
-        template::Answer::Refused { number, place } => refusal(number, place, out),
-        template::Answer::Template { start, end } => three(0, start, end, out),
-        template::Answer::Line { start, end } => three(1, start, end, out),
+        Err(refused) => refusal(refused.refusal.number(), refused.place, out),
+        Ok(span) => three(span.source as usize, span.start, span.end, out),
     }
 }
 
 // What replace-all answered.
-pub fn tell_replaced(answer: replacer::Replaced, out: &mut [u64]) -> u32
+pub fn tell_replaced(answer: Result<Replaced, Refused>, out: &mut [u64]) -> u32
     requires { Numbered (replaced.answer_of answer) × (3 ≤ length out.old) }
     ensures { Tells (replaced_numbers (replaced.answer_of answer)) out.old result out.new }
 {
     match answer {
-        replacer::Replaced::Refused { number, place } => refusal(number, place, out),
-        replacer::Replaced::Done {
-            length,
-            replacements,
-            steps,
-        } => three(length, replacements, steps as usize, out),
+        Err(refused) => refusal(refused.refusal.number(), refused.place, out),
+        Ok(done) => three(done.length, done.replacements, done.steps as usize, out),
     }
 }
 
