@@ -73,7 +73,7 @@ fn check(pattern: &[u8], p: &mut Printer)
             p.bytes(b"ok");
             print_numbers(&[numbers.places, numbers.depth, numbers.groups], p);
         }
-        Err(refused) => p.refusal(refused.refusal.number(), refused.place),
+        Err(refused) => p.refusal(refused),
     }
 }
 
@@ -96,7 +96,7 @@ fn find_in(call: Call, pattern: &[u8], line: &[u8], table: &mut [u16], p: &mut P
             p.bytes(if matched { b"whole " } else { b"none " });
             p.decimal(u64::from(steps));
         }
-        Err(refused) => p.refusal(refused.refusal.number(), refused.place),
+        Err(refused) => p.refusal(refused),
     }
     print_table(table, p);
 }
@@ -129,7 +129,7 @@ fn replace(pattern: &[u8], template: &[u8], line: &[u8], buffer: &mut [u8], p: &
             print_change(rest, p);
         }
         Err(refused) => {
-            p.refusal(refused.refusal.number(), refused.place);
+            p.refusal(refused);
             print_change(buffer, p);
         }
     }
@@ -158,6 +158,6 @@ fn piece(template: &[u8], line: &[u8], table: &[u16], number: usize, p: &mut Pri
             p.bytes(b" ");
             p.byte_string(template::part(template, line, table, number));
         }
-        Err(refused) => p.refusal(refused.refusal.number(), refused.place),
+        Err(refused) => p.refusal(refused),
     }
 }
