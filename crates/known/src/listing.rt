@@ -79,11 +79,6 @@ fn set(p: &mut Printer, pattern: &[u8], offset: u16, count: u16)
     }
 }
 
-// A byte that stands in a place's number.
-fn byte(x: u16) -> u8 {
-    (x % 256) as u8
-}
-
 // A set of one range, whose least and greatest byte are the place's numbers. A search has two places that take every byte.
 fn single(p: &mut Printer, low: u16, high: u16)
     ensures { Gathered p.old p.new }
@@ -91,7 +86,8 @@ fn single(p: &mut Printer, low: u16, high: u16)
     if low == 0 && high == 255 {
         p.bytes(b"any byte");
     } else {
-        ranges(p, &[byte(low), byte(high)]);
+        let ([low, _], [high, _]) = (low.to_le_bytes(), high.to_le_bytes());
+        ranges(p, &[low, high]);
     }
 }
 

@@ -4,9 +4,9 @@
 ghost use Rattle.std.specs.Prelude.{◌≡◌, ◌≤◌, min, length};
 ghost use Rattle.memory.specs.Memory.{machine_numbers, scratch_numbers, memories, shortest, MachineOf, BuildsIn, RunsIn};
 
-use machine::Built;
-use matcher::Answer;
-use pattern::{Line, Refusal, Spans};
+use machine::{Machine, Scratch};
+use matcher::Found;
+use pattern::{Numbers, Refused, Spans};
 
 // The memory of a machine.
 #[derive(Clone, Copy)]
@@ -18,27 +18,15 @@ impl Memory {
 }
 
 // Builds a machine behind its head, and then the head.
-pub fn build_in(pattern: &[u8], searches: bool, machine: &mut [u16]) -> Built
+pub fn build_in(pattern: &[u8], searches: bool, machine: &mut [u16]) -> Result<Numbers, Refused>
     requires { machine_numbers ≤ length machine.old }
     ensures { BuildsIn pattern.now searches machine.old machine.new result }
 {
-    match machine::build(pattern, searches, &mut machine[Memory::HEAD..]) {
-        Built::Refused { number, place } => Built::Refused { number, place },
-        Built::Machine {
-            places,
-            depth,
-            groups,
-        } => {
-            machine[0] = places as u16;
-            machine[1] = depth as u16;
-            machine[2] = searches as u16;
-            Built::Machine {
-                places,
-                depth,
-                groups,
-            }
-        }
-    }
+    let numbers = machine::build(pattern, searches, &mut machine[Memory::HEAD..])?;
+    machine[0] = numbers.places as u16;
+    machine[1] = numbers.depth as u16;
+    machine[2] = u16::from(searches);
+    Ok(numbers)
 }
 
 // Refusals 11 and 12, which touch nothing, else what the machine finds, its rows in the table.
@@ -51,52 +39,32 @@ pub fn run_in(
     lists: &mut [u16],
     pending: &mut [u16],
     table: &mut [u16],
-) -> Answer
+) -> Result<Found, Refused>
     requires { (machine_numbers ≤ length machine.now) × MachineOf pattern.now machine.now × (scratch_numbers ≤ shortest (memories seen.old taken.old lists.old pending.old)) }
     ensures { RunsIn pattern.now machine.now line.now (memories seen.old taken.old lists.old pending.old) (memories seen.new taken.new lists.new pending.new) table.old table.new result }
 {
-    if Line::BYTES < line.len() {
-        return Answer::Refused {
-            number: Refusal::LineTooLong as usize,
-            place: 0,
-        };
-    }
-    if table.len() < Spans::NUMBERS {
-        return Answer::Refused {
-            number: Refusal::TableTooShort as usize,
-            place: 0,
-        };
-    }
-    let places = machine[0] as usize;
-    let depth = machine[1] as usize;
-    let searches = machine[2] == 1;
-    let ran = machine::find_in(
+    pattern::lent(line, table)?;
+    let built = Machine {
         pattern,
-        &machine[Memory::HEAD..],
-        searches,
-        places,
-        depth,
-        line,
+        code: &machine[Memory::HEAD..],
+        searches: machine[2] == 1,
+        places: usize::from(machine[0]),
+        depth: usize::from(machine[1]),
+    };
+    let mut scratch = Scratch {
         seen,
         taken,
         lists,
         pending,
-    );
-    let rows = ran.rows;
-    matcher::fill(table, rows);
-    matcher::told(ran.matched, ran.steps)
-}
-
-// The lesser of two lengths.
-fn least(a: usize, b: usize) -> usize
-    ensures { result ≡ min a b }
-{
-    if a < b { a } else { b }
+    };
+    let ran = built.find_in(line, &mut scratch);
+    matcher::fill(table, ran.rows.unwrap_or(Spans::absent_table()));
+    matcher::told(ran.rows.is_some(), ran.steps)
 }
 
 // The least of the lengths of the four memories that a machine is run in.
 pub fn least_of_four(seen: usize, taken: usize, lists: usize, pending: usize) -> usize
     ensures { result ≡ min (min seen taken) (min lists pending) }
 {
-    least(least(seen, taken), least(lists, pending))
+    seen.min(taken).min(lists.min(pending))
 }

@@ -13,10 +13,10 @@ part_front l start end forward =
     let whole : start + (end - start) ≡ end = omega arith in
     sym (ap (λ (n : ℕ). drop start (take n l)) (sym whole) ∙ drop-take start (end - start) l)
 
--- a part that starts later
-pub part_later : (l : List ℕ) (start n end : ℕ) → start + n ≤ end → part l (start + n) end ≡ drop n (part l start end)
+-- the first of a part left out
+pub part_later : (l : List ℕ) (start n end : ℕ) → n ≤ length (part l start end) → part l (start + n) end ≡ drop n (part l start end)
 part_later l start n end inside =
-    let whole : n + (end - (start + n)) ≡ end - start = omega arith in
+    let whole : n + (end - (start + n)) ≡ end - start = omega (arith, length-take (end - start) (drop start l)) in
     sym (ap (λ (k : ℕ). drop n (take k (drop start l))) (sym whole) ∙ drop-take n (end - (start + n)) (drop start l) ∙ ap (take (end - (start + n))) (drop-drop n start l))
 
 -- what is read behind a part leaves it the first
@@ -29,8 +29,3 @@ grown_read l came start end to room forward further inside =
     ∙ part_front new start end forward
     ∙ ap (drop start) (take-put_mid_below end room l came end (omega arith) inside)
     ∙ sym (part_front l start end forward)
-
-pub grown_then : (old mid new : List ℕ) → Grown old mid → Grown mid new → Grown old new
-grown_then old mid new one other =
-    let shorter : length old ≤ length mid = omega (arith, ap length one, length-take (length old) mid) in
-    sym (take-take (length old) (length mid) new shorter) ∙ ap (take (length old)) other ∙ one

@@ -58,6 +58,7 @@ impl Input {
     }
 
     // Leaves out the first of them, which are used.
+    #[tactic(auto, using(crate::proofs::Windows::part_later))]
     pub fn consume(&mut self, n: usize)
         requires { n ≤ length self.old }
         ensures { self.new ≡ drop n self.old }
@@ -80,6 +81,7 @@ impl Input {
     }
 
     // Reads once behind them.
+    #[tactic(auto, using(crate::proofs::Windows::grown_read))]
     fn read_more(&mut self)
         ensures { Grown self.old self.new }
     {

@@ -4,13 +4,12 @@
 
 mod input;
 
-ghost use Rattle.std.specs.Prelude.{◌≤◌, length};
-ghost use Rattle.paper.specs.Limits.{line_bytes};
-ghost use Rattle.pick.specs.Job.{Lines};
+ghost use Rattle.std.specs.Prelude.{◌≡◌, false};
+ghost use Rattle.machine.specs.Scratch.{Roomy};
 
 use input::Input;
 use job::{Broken, Job};
-use machine::{Built, Machine};
+use machine::{LargeScratch, Machine, Scratch};
 use printer::Printer;
 use std::io::Stderr;
 
@@ -18,36 +17,23 @@ use std::io::Stderr;
 // number that no job reaches.
 fn all_lines(
     input: &mut Input,
-    pattern: &[u8],
-    code: &[u16],
-    places: usize,
-    depth: usize,
+    machine: Machine,
     groups: usize,
-    seen: &mut [u16],
-    taken: &mut [u16],
-    lists: &mut [u16],
-    pending: &mut [u16],
+    scratch: &mut Scratch,
     p: &mut Printer,
 ) -> Result<(), Broken>
-    requires { Lines pattern.now code.now places depth seen.old taken.old lists.old pending.old }
+    requires built { machine.searches ≡ false }
+    requires roomy { Roomy machine.places machine.depth scratch.old }
 {
-    for number in 1..u64::MAX {
+    for number in 1..=u64::MAX {
         input.fill();
         let bytes = input.bytes();
         let Some(body) = job::next_record(bytes, 0, bytes.len(), Job::LINE)? else {
             return Ok(());
         };
         let line = &bytes[body.start..body.end];
-        let ran = machine::match_rows(
-            pattern, code, places, depth, line, seen, taken, lists, pending,
-        );
-        job::print_line(
-            p,
-            number,
-            ran.matched.then_some(ran.rows),
-            ran.steps,
-            groups,
-        );
+        let ran = machine.match_rows(line, scratch);
+        job::print_line(p, number, ran.rows, ran.steps, groups);
         if p.failed() {
             return Ok(());
         }
@@ -69,30 +55,18 @@ fn print_end(input: &Input, ended: Result<(), Broken>, p: &mut Printer, errors: 
 fn with_pattern(input: &mut Input, pattern: &[u8], p: &mut Printer, errors: Stderr) {
     let mut code = [0u16; Machine::CODE];
     match machine::build(pattern, false, &mut code) {
-        Built::Refused { number, place } => job::print_refused(p, number, place),
-        Built::Machine {
-            places,
-            depth,
-            groups,
-        } => {
-            job::print_numbers(p, places, depth, groups);
-            let mut seen = [0u16; Machine::PAIRS];
-            let mut taken = [0u16; Machine::PLACES];
-            let mut lists = [0u16; Machine::LISTS];
-            let mut pending = [0u16; Machine::PENDING];
-            let ended = all_lines(
-                input,
+        Err(refused) => job::print_refused(p, refused),
+        Ok(numbers) => {
+            job::print_numbers(p, numbers);
+            let machine = Machine {
                 pattern,
-                &code,
-                places,
-                depth,
-                groups,
-                &mut seen,
-                &mut taken,
-                &mut lists,
-                &mut pending,
-                p,
-            );
+                code: &code,
+                searches: false,
+                places: numbers.places,
+                depth: numbers.depth,
+            };
+            let mut own = LargeScratch::new();
+            let ended = all_lines(input, machine, numbers.groups, &mut own.lend(), p);
             print_end(input, ended, p, errors);
         }
     }

@@ -27,6 +27,7 @@ pub fn read_full(from: Stdin, buffer: &mut [u8]) -> io::Result<usize>
     ensures { Brought buffer.old result }
 {
     let mut n = 0;
+    // no `for`: how much a turn brings is the system's to say
     while n < buffer.len() {
         match read(from, &mut buffer[n..])? {
             0 => return Ok(n),

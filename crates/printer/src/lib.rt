@@ -6,7 +6,7 @@
 mod answers;
 mod input;
 
-ghost use Rattle.std.specs.Prelude.{ℕ, ◌≤◌, ◌≡◌, ◌↔◌, ◌⊎◌, Option, None, Some, IsNone, IsTrue, IfSome};
+ghost use Rattle.std.specs.Prelude.{ℕ, ◌≤◌, ◌<◌, ◌≡◌, ◌↔◌, ◌⊎◌, Option, None, Some, IsNone, IsTrue, IfSome};
 ghost use Rattle.printer.specs.Gathered.{Gathered};
 
 pub use input::{read, read_full};
@@ -58,6 +58,7 @@ fn complain(errors: Stderr, program: &[u8], words: &[u8]) {
 }
 
 // Prints to standard output. Contracts see how many bytes are gathered; after a failed write there is no such number.
+// No Display: after an `Err` of `write!` a contract knows nothing of the printer, and `Gathered` is promised of each call, which may not change.
 #[derive(Drop)]
 pub struct Printer {
     to: Stdout,
@@ -102,6 +103,7 @@ impl Printer {
 
     // Writes out what is gathered, which leaves nothing.
     #[tactic(auto, unfolding(crate::specs::Gathered::failures))]
+    #[cold]
     fn flush(&mut self)
         ensures gathered { Gathered self.old self.new }
         ensures empty { (self.new ≡ Some 0) ⊎ (self.new ≡ None) }
@@ -111,26 +113,36 @@ impl Printer {
         }
     }
 
-    // One byte more, as it is.
+    // Where the next byte goes, for which a full buffer is written out.
     #[tactic(auto, unfolding(crate::specs::Gathered::failures))]
-    fn push(&mut self, b: u8)
-        ensures { Gathered self.old self.new }
+    #[inline]
+    fn room(&mut self) -> Option<usize>
+        ensures gathered { Gathered self.old self.new }
+        ensures told { result ≡ self.new }
+        ensures inside { IfSome result (λ n. n < 65536) }
     {
         if self.gathered == Some(BYTES) {
             self.flush();
         }
-        if let Some(n) = self.gathered {
-            self.buffer[n] = b;
-            self.gathered = Some(n + 1);
-        }
+        self.gathered
     }
 
     // All bytes of a slice in order, as they are.
+    #[tactic(auto, unfolding(crate::specs::Gathered::failures))]
+    #[inline]
     fn plain(&mut self, s: &[u8])
         ensures { Gathered self.old self.new }
     {
-        for &b in s {
-            self.push(b);
+        let mut rest = s;
+        // no `for`: how much a turn gathers is known by the room alone
+        while !rest.is_empty() {
+            let Some(n) = self.room() else {
+                return;
+            };
+            let (now, later) = rest.split_at(rest.len().min(BYTES - n));
+            self.buffer[n..n + now.len()].copy_from_slice(now);
+            self.gathered = Some(n + now.len());
+            rest = later;
         }
     }
 
@@ -153,6 +165,7 @@ impl Printer {
     }
 
     // The bytes of a slice, in order.
+    #[inline]
     pub fn bytes(&mut self, s: &[u8])
         ensures { Gathered self.old self.new }
     {
@@ -177,7 +190,7 @@ impl Printer {
         ensures { Gathered self.old self.new }
     {
         if s.is_empty() {
-            self.push(b'.');
+            self.plain(b".");
         } else {
             self.digits(s);
         }

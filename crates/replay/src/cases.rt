@@ -1,10 +1,12 @@
 // The cases: each a call, with what it is made on.
 use crate::fields::Fields;
 
-// The most bytes that the digits of a line can stand for, and the most numbers of a table.
-const STORE: usize = 150_000;
+// The longest line that is read, the most bytes that its digits can stand for, and the most numbers of a table.
+pub const LINE: usize = 300_000;
 
-const TABLE: usize = 75_000;
+const STORE: usize = LINE / 2;
+
+const TABLE: usize = STORE / 2;
 
 // The greatest buffer of a replace case.
 const ROOM: usize = 300_000;
@@ -27,13 +29,14 @@ impl Memory {
     }
 }
 
-// The calls that find a pattern in a line.
+// The two calls that look for a pattern in a line.
 #[derive(Clone, Copy)]
 pub enum Call {
     WholeMatch,
     Search,
 }
 
+// A case: the call by its name in docs/CASES.md, and what it is made on.
 #[derive(Drop)]
 pub enum Case<'a> {
     Check {
@@ -89,7 +92,7 @@ impl<'a> Case<'a> {
             b"piece" => Case::Piece {
                 template: fields.bytes()?,
                 line: fields.bytes()?,
-                table: numbers(fields.bytes()?, table)?,
+                table: numbers(fields.bytes()?, table),
                 number: fields.number()?,
             },
             b"pick" => Case::Pick {
@@ -113,17 +116,18 @@ impl<'a> Case<'a> {
             call,
             pattern: fields.bytes()?,
             line: fields.bytes()?,
-            table: numbers(fields.bytes()?, table)?,
+            table: numbers(fields.bytes()?, table),
         })
     }
 }
 
-// The table of the numbers whose bytes stand in a slice, the lower byte of each first.
-fn numbers<'a>(bytes: &[u8], table: &'a mut [u16]) -> Option<&'a mut [u16]> {
+// The numbers whose bytes stand in a slice, the lower byte of each first, put into a table: as many as it has room for.
+fn numbers<'a>(bytes: &[u8], table: &'a mut [u16]) -> &'a mut [u16] {
     let (pairs, _) = bytes.as_chunks::<2>();
-    let numbers = table.get_mut(..pairs.len())?;
+    let count = pairs.len().min(table.len());
+    let numbers = &mut table[..count];
     for (number, pair) in numbers.iter_mut().zip(pairs) {
         *number = u16::from_le_bytes(*pair);
     }
-    Some(numbers)
+    numbers
 }

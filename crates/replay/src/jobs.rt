@@ -3,6 +3,7 @@ ghost use Rattle.std.specs.Prelude.{◌≤◌, length};
 ghost use Rattle.printer.specs.Gathered.{Gathered};
 
 use job::{Body, Broken, Job};
+use matcher::Found;
 use pattern::Spans;
 use printer::Printer;
 
@@ -25,17 +26,13 @@ fn print_job(bytes: &[u8], p: &mut Printer) -> Result<(), Broken>
     };
     let pattern = &bytes[start..end];
     match pattern::check(pattern) {
-        pattern::Answer::Refused { number, place } => {
-            job::print_refused(p, number, place);
-            Ok(())
+        Ok(numbers) => {
+            job::print_numbers(p, numbers);
+            print_lines(bytes, end, pattern, numbers.groups, p)
         }
-        pattern::Answer::Accepted {
-            places,
-            depth,
-            groups,
-        } => {
-            job::print_numbers(p, places, depth, groups);
-            print_lines(bytes, end, pattern, groups, p)
+        Err(refused) => {
+            job::print_refused(p, refused);
+            Ok(())
         }
     }
 }
@@ -57,11 +54,10 @@ fn print_lines(
         number += 1;
         let mut rows = Spans::absent_table();
         match matcher::whole_match(pattern, &bytes[start..end], &mut rows) {
-            matcher::Answer::Refused { number, place } => job::print_refused(p, number, place),
-            matcher::Answer::Match { steps } => {
-                job::print_line(p, number, Some(rows), steps, groups);
+            Ok(Found { matched, steps }) => {
+                job::print_line(p, number, matched.then_some(rows), steps, groups);
             }
-            matcher::Answer::NoMatch { steps } => job::print_line(p, number, None, steps, groups),
+            Err(refused) => job::print_refused(p, refused),
         }
         next = end;
     }

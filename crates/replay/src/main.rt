@@ -9,21 +9,18 @@ mod jobs;
 
 ghost use Rattle.printer.specs.Gathered.{Gathered};
 
-use cases::{Case, Memory};
+use cases::{Case, LINE, Memory};
 use printer::Printer;
 use std::io::{Result, Stdin};
 
-// The longest line that is read.
-const LINE: usize = 300_000;
-
-// The line that is being read: its bytes, and how many came, of which those beyond the longest line are not kept.
+// The text of the line that is being read: its bytes, and how many came, of which those beyond the longest line are not kept.
 #[derive(Drop)]
-struct Line {
+struct Text {
     bytes: [u8; LINE],
     count: usize,
 }
 
-impl Line {
+impl Text {
     fn push(&mut self, b: u8) {
         if let Some(place) = self.bytes.get_mut(self.count) {
             *place = b;
@@ -37,9 +34,10 @@ impl Line {
     }
 }
 
+// What a run goes on with: the line that is being read, what its case is kept in, and where the answers go.
 #[derive(Drop)]
 struct Replay {
-    line: Line,
+    text: Text,
     memory: Memory,
     printer: Printer,
 }
@@ -52,14 +50,14 @@ impl Replay {
         if self.answer_case().is_none() {
             self.printer.bytes(b"bad line\n");
         }
-        self.line.count = 0;
+        self.text.count = 0;
     }
 
     // Prints the case that the line is with its answer, if it is one.
     fn answer_case(&mut self) -> Option<()>
         ensures { Gathered self.old.printer self.new.printer }
     {
-        let query = query(self.line.whole()?);
+        let query = query(self.text.whole()?);
         let case = Case::read(query, &mut self.memory)?;
         let p = &mut self.printer;
         p.bytes(query);
@@ -77,7 +75,7 @@ impl Replay {
             if *b == b'\n' {
                 self.answer();
             } else {
-                self.line.push(*b);
+                self.text.push(*b);
             }
         }
     }
@@ -91,7 +89,7 @@ impl Replay {
         for _ in 0..u64::MAX {
             let n = printer::read(input, &mut block)?;
             if n == 0 {
-                if self.line.count != 0 {
+                if self.text.count != 0 {
                     self.answer();
                 }
                 break;
@@ -115,17 +113,17 @@ fn query(line: &[u8]) -> &[u8] {
 
 fn main(rt: HostRuntime) {
     let mut replay = Replay {
-        line: Line {
+        text: Text {
             bytes: [0; LINE],
             count: 0,
         },
         memory: Memory::new(),
         printer: Printer::new(rt.stdout()),
     };
-    if replay.read_all(rt.stdin()).is_err() {
-        replay
-            .printer
-            .unreadable(rt.stderr(), b"replay", b"input unreadable\n");
+    let end = replay.read_all(rt.stdin());
+    let p = &mut replay.printer;
+    if end.is_err() {
+        p.unreadable(rt.stderr(), b"replay", b"input unreadable\n");
     }
-    replay.printer.finish(rt.stderr(), b"replay");
+    p.finish(rt.stderr(), b"replay");
 }
