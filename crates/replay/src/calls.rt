@@ -73,7 +73,7 @@ fn check(pattern: &[u8], p: &mut Printer)
             p.bytes(b"ok");
             print_numbers(&[numbers.places, numbers.depth, numbers.groups], p);
         }
-        Err(refused) => p.refusal(refused.refusal.number(), refused.place),
+        Err(refused) => p.refusal(refused),
     }
 }
 
@@ -92,7 +92,7 @@ fn find_in(call: Call, pattern: &[u8], line: &[u8], table: &mut [u16], p: &mut P
     ensures { Gathered p.old p.new }
 {
     match call.make(pattern, line, table) {
-        Err(refused) => p.refusal(refused.refusal.number(), refused.place),
+        Err(refused) => p.refusal(refused),
         Ok(Found { matched, steps }) => {
             print_steps(if matched { b"whole " } else { b"none " }, steps, p);
         }
@@ -127,7 +127,7 @@ fn replace(pattern: &[u8], template: &[u8], line: &[u8], buffer: &mut [u8], p: &
     buffer.fill(FILL);
     match replacer::replace_all(pattern, template, line, buffer) {
         Err(refused) => {
-            p.refusal(refused.refusal.number(), refused.place);
+            p.refusal(refused);
             print_change(buffer, p);
         }
         Ok(done) => {
@@ -155,7 +155,7 @@ fn piece(template: &[u8], line: &[u8], table: &[u16], number: usize, p: &mut Pri
     ensures { Gathered p.old p.new }
 {
     match template::piece(template, line, table, number) {
-        Err(refused) => p.refusal(refused.refusal.number(), refused.place),
+        Err(refused) => p.refusal(refused),
         Ok(span) => {
             p.bytes(match span.source {
                 Source::Template => b"template",
