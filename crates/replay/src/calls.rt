@@ -5,6 +5,7 @@ use crate::cases::{Call, Case};
 use crate::jobs;
 use pattern::Spans;
 use printer::Printer;
+use template::Source;
 
 // What each byte of a buffer is before the call, so that what the call leaves of it can be told.
 const FILL: u8 = b'#';
