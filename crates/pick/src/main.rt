@@ -9,7 +9,8 @@ ghost use Rattle.machine.specs.Scratch.{Roomy};
 
 use input::Input;
 use job::{Broken, Job};
-use machine::{Built, LargeScratch, Machine, Scratch};
+use machine::{LargeScratch, Machine, Scratch};
+use pattern::Numbers;
 use printer::Printer;
 use std::io::Stderr;
 
@@ -55,12 +56,12 @@ fn print_end(input: &Input, ended: Result<(), Broken>, p: &mut Printer, errors: 
 fn with_pattern(input: &mut Input, pattern: &[u8], p: &mut Printer, errors: Stderr) {
     let mut code = [0u16; Machine::CODE];
     match machine::build(pattern, false, &mut code) {
-        Built::Refused { number, place } => job::print_refused(p, number, place),
-        Built::Machine {
+        Err(refused) => job::print_refused(p, refused.refusal.number(), refused.place),
+        Ok(Numbers {
             places,
             depth,
             groups,
-        } => {
+        }) => {
             job::print_numbers(p, places, depth, groups);
             let machine = Machine {
                 pattern,

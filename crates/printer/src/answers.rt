@@ -3,8 +3,8 @@ ghost use Rattle.std.specs.Prelude.{◌≤◌};
 ghost use Rattle.printer.specs.Gathered.{Gathered};
 
 use crate::Printer;
-use matcher::Answer;
-use pattern::Spans;
+use matcher::Found;
+use pattern::{Refused, Spans};
 
 impl Printer {
     // A refusal: its number and its place.
@@ -53,13 +53,12 @@ impl Printer {
     }
 
     // What a whole match or a search answers: a refusal, or what it found.
-    pub fn found(&mut self, answer: Answer, table: [u16; Spans::NUMBERS], groups: usize)
+    pub fn found(&mut self, answer: Result<Found, Refused>, table: [u16; Spans::NUMBERS], groups: usize)
         ensures { Gathered self.old self.new }
     {
         match answer {
-            Answer::Refused { number, place } => self.refusal(number, place),
-            Answer::Match { steps } => self.outcome(Some(table), steps, groups),
-            Answer::NoMatch { steps } => self.outcome(None, steps, groups),
+            Err(refused) => self.refusal(refused.refusal.number(), refused.place),
+            Ok(Found { matched, steps }) => self.outcome(matched.then_some(table), steps, groups),
         }
     }
 }

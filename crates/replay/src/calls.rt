@@ -3,7 +3,8 @@ ghost use Rattle.printer.specs.Gathered.{Gathered};
 
 use crate::cases::{Call, Case};
 use crate::jobs;
-use pattern::Spans;
+use matcher::Found;
+use pattern::{Refused, Spans};
 use printer::Printer;
 use template::Source;
 
@@ -46,7 +47,7 @@ impl Case<'_> {
 }
 
 impl Call {
-    fn make(self, pattern: &[u8], line: &[u8], table: &mut [u16]) -> matcher::Answer {
+    fn make(self, pattern: &[u8], line: &[u8], table: &mut [u16]) -> Result<Found, Refused> {
         match self {
             Call::WholeMatch => matcher::whole_match(pattern, line, table),
             Call::Search => matcher::search(pattern, line, table),
@@ -91,9 +92,10 @@ fn find_in(call: Call, pattern: &[u8], line: &[u8], table: &mut [u16], p: &mut P
     ensures { Gathered p.old p.new }
 {
     match call.make(pattern, line, table) {
-        matcher::Answer::Refused { number, place } => p.refusal(number, place),
-        matcher::Answer::Match { steps } => print_steps(b"whole ", steps, p),
-        matcher::Answer::NoMatch { steps } => print_steps(b"none ", steps, p),
+        Err(refused) => p.refusal(refused.refusal.number(), refused.place),
+        Ok(Found { matched, steps }) => {
+            print_steps(if matched { b"whole " } else { b"none " }, steps, p);
+        }
     }
     print_table(table, p);
 }

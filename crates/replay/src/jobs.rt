@@ -3,6 +3,7 @@ ghost use Rattle.std.specs.Prelude.{◌≤◌, length};
 ghost use Rattle.printer.specs.Gathered.{Gathered};
 
 use job::{Body, Broken, Job};
+use matcher::Found;
 use pattern::Spans;
 use printer::Printer;
 
@@ -53,11 +54,10 @@ fn print_lines(
         number += 1;
         let mut rows = Spans::absent_table();
         match matcher::whole_match(pattern, &bytes[start..end], &mut rows) {
-            matcher::Answer::Refused { number, place } => job::print_refused(p, number, place),
-            matcher::Answer::Match { steps } => {
-                job::print_line(p, number, Some(rows), steps, groups);
+            Err(refused) => job::print_refused(p, refused.refusal.number(), refused.place),
+            Ok(Found { matched, steps }) => {
+                job::print_line(p, number, matched.then_some(rows), steps, groups);
             }
-            matcher::Answer::NoMatch { steps } => job::print_line(p, number, None, steps, groups),
         }
         next = end;
     }
