@@ -27,11 +27,11 @@ fn print_job(bytes: &[u8], p: &mut Printer) -> Result<(), Broken>
     let pattern = &bytes[start..end];
     match pattern::check(pattern) {
         Ok(numbers) => {
-            job::print_numbers(p, numbers.places, numbers.depth, numbers.groups);
+            job::print_numbers(p, numbers);
             print_lines(bytes, end, pattern, numbers.groups, p)
         }
         Err(refused) => {
-            job::print_refused(p, refused.refusal.number(), refused.place);
+            job::print_refused(p, refused);
             Ok(())
         }
     }
@@ -54,10 +54,10 @@ fn print_lines(
         number += 1;
         let mut rows = Spans::absent_table();
         match matcher::whole_match(pattern, &bytes[start..end], &mut rows) {
-            Err(refused) => job::print_refused(p, refused.refusal.number(), refused.place),
             Ok(Found { matched, steps }) => {
                 job::print_line(p, number, matched.then_some(rows), steps, groups);
             }
+            Err(refused) => job::print_refused(p, refused),
         }
         next = end;
     }
