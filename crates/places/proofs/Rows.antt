@@ -5,7 +5,6 @@ use mathlib.Core.Bool.{Bool, true, false, false≢true}
 use mathlib.Core.List.{List, [], ◌∷◌}
 use native.Mathlib.Omega.{arith}
 use mir.Val.{bool_byte as from_bool}
-use lib.ListN.{length}
 use Rattle.paper.specs.Pattern.{Pattern, places, groups}
 use Rattle.paper.specs.Check.{body_end}
 use Rattle.paper.specs.Machine.{Core, chain, either, size, written_out, fork}
@@ -13,7 +12,7 @@ use Rattle.paper.proofs.machine.Sizes.{size_written}
 use Rattle.laying.specs.Room.{most_places}
 use Rattle.pattern.specs.Walk.{places_in, groups_in}
 use Rattle.laying.specs.Laid.{Holds, entry_of, Lays}
-use Rattle.laying.specs.Single.{Fitting, Put}
+use Rattle.laying.specs.Single.{Put}
 use Rattle.laying.proofs.Stores.{plain_holds, holds_kept, lays_kept, kept_both}
 use Rattle.laying.proofs.Entering.{entry_small}
 use Rattle.places.specs.Sums.{Counting, Counted}
