@@ -313,10 +313,6 @@ pub record Summing (all left : Records) (sums : Sums) : Type 0 where
   pub same_stop : left.stop ≡ all.stop
   pub adding : Adding all.pattern.now all.at all.stop left.at sums.places sums.groups sums.records
 
--- nothing is summed where it begins
-pub summing_none : (all : Records) → Summing all all (record { places = 0; groups = 0; records = 0 })
-summing_none all = record { same_pattern = refl; same_stop = refl; adding = adding_none all.at all.stop }
-
 -- a turn of the loop
 module _ {all left next : Records} {sums : Sums} {r : Record} (m : Waiting all) (s : Summing all left sums) (g : Goes left (Some r) next) where
   going : left.at < all.stop

@@ -333,21 +333,6 @@ pub record Along (part : Part) (forks : Bool) (left : Part) (end : ℕ) (before 
   pub laid : (after : List ℕ) → SeveralLaid part.pattern.now left.at part.stop forks left.base part.next left.first left.places left.groups now after
       → RowMade part forks before after
 
--- all records are left
-pub along_all : {part : Part} {forks : Bool} {end : ℕ} (t : List ℕ) → RowAsked part forks → end ≡ body_end part.pattern.now (part.at + 4)
-    → Along part forks (record {
-      pattern = part.pattern;
-      at = part.at + 4;
-      stop = part.stop;
-      first = part.first;
-      places = part.places;
-      groups = part.groups;
-      base = part.base;
-      next = part.next;
-    }) end t t
-along_all t m ee =
-    record { same_pattern = refl; same_stop = refl; same_next = refl; row = m; end_is = ee; passed = omega arith; laid = λ after r. r }
-
 -- one record less
 pub along_one : {part left : Part} {forks : Bool} {end end' head out p g k : ℕ} {t0 t t1 t2 : List ℕ} → Along part forks left end t0 t → (end ≡ part.stop → ⊥)
     → Counted part.pattern.now left.at end p g k → head ≡ from_bool forks
