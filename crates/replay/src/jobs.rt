@@ -54,10 +54,10 @@ fn print_lines(
         number += 1;
         let mut rows = Spans::absent_table();
         match matcher::whole_match(pattern, &bytes[start..end], &mut rows) {
-            Err(refused) => job::print_refused(p, refused),
             Ok(Found { matched, steps }) => {
                 job::print_line(p, number, matched.then_some(rows), steps, groups);
             }
+            Err(refused) => job::print_refused(p, refused),
         }
         next = end;
     }
