@@ -157,11 +157,6 @@ star_lays t bs mode first n e base next p ep =
     (sym ep)
     (λ a b c d. (a, b, c, d))
 
--- a run of passes has at least a place a pass
-pub passes_count : (least may p : ℕ) → least + may ≤ pass_places least may p
-passes_count least may p =
-    omega (arith, mul-le-mul_left {m = 1} {n = 1 + p} least (omega arith), mul-le-mul_left {m = 1} {n = 3 + p} may (omega arith))
-
 -- where the end of an optional pass leads is a place
 pub end_small : (endless : Bool) (n base after next : ℕ) {most : ℕ} → base ≤ most → after ≤ most → next ≤ most
     → cond endless base (entry_of n after next) ≤ most

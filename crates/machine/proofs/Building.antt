@@ -110,11 +110,3 @@ module _ (pattern before after : List ℕ) (bytes : (i : ℕ) → get_or pattern
         t.many_are,
         behind_places laid,
       )
-
--- what building promises, where its answer is known
-module _ (pattern : List ℕ) (searches : Bool) (before after : List ℕ) {r : Result declared.Numbers refusing.Refused} (builds : Builds pattern searches before after r) where
-  pub machine_of : {numbers : declared.Numbers} → r ≡ Ok numbers → Ready pattern after searches numbers.places numbers.depth
-  machine_of is = (subst (Builds pattern searches before after) is builds).0
-
-  pub refusal_of : {e : refusing.Refused} → r ≡ Err e → pattern_of pattern ≡ refused (number_of e.refusal) e.place
-  refusal_of is = (subst (Builds pattern searches before after) is builds).0

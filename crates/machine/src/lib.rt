@@ -29,24 +29,18 @@ pub fn build(pattern: &[u8], searches: bool, code: &mut [u16]) -> Result<Numbers
     requires { table_room ≤ length code.old }
     ensures { Builds pattern.now searches code.old code.new result }
 {
-    let Numbers {
-        places,
-        depth,
-        groups,
-    } = pattern::check(pattern)?;
+    let numbers = pattern::check(pattern)?;
+    let last = numbers.places - 1;
     if searches {
-        let places = places::build_search(pattern, code, places - 1, groups);
         Ok(Numbers {
-            places,
-            depth: depth.max(1),
-            groups,
+            places: places::build_search(pattern, code, last, numbers.groups),
+            depth: numbers.depth.max(1),
+            ..numbers
         })
     } else {
-        let places = places::build_match(pattern, code, places - 1, groups);
         Ok(Numbers {
-            places,
-            depth,
-            groups,
+            places: places::build_match(pattern, code, last, numbers.groups),
+            ..numbers
         })
     }
 }

@@ -1,5 +1,5 @@
 -- The whole call: its refusals in their order and what it answers otherwise, one law a way out; and the promises allow one answer and one table only.
-use Prim.Native.Nat.{ℕ, ◌≤◌, ◌<◌}
+use Prim.Native.Nat.{ℕ, ◌≤◌}
 use native.Mathlib.Omega.{arith}
 use mathlib.Core.Path.{◌≡◌, refl, sym, ap, ap₂, subst, ◌∙◌}
 use mathlib.Core.Bool.{Bool, true, false}
@@ -7,9 +7,9 @@ use mathlib.Core.List.{List, ◌++◌}
 use mathlib.Core.Option.{Option}
 use lib.Dec.{leb}
 use lib.ListN.{length, drop}
-use borrow.Author.Tests.{le-leb, lt-leb, leb-true}
-use Rattle.paper.specs.Limits.{line_bytes, table_numbers, step_limit}
-use Rattle.paper.specs.Refusal.{Checked, refused, accepted, ◌>>=◌, ◌>>◌, holds, line_too_long, table_too_short, too_many_steps}
+use borrow.Author.Tests.{leb-true}
+use Rattle.paper.specs.Limits.{line_bytes, table_numbers}
+use Rattle.paper.specs.Refusal.{Checked, refused, accepted, ◌>>=◌, ◌>>◌, holds, line_too_long, table_too_short}
 use Rattle.paper.specs.Pattern.{Pattern}
 use Rattle.paper.specs.Layout.{Lawful}
 use Rattle.paper.specs.Check.{pattern_of}
@@ -17,7 +17,7 @@ use Rattle.std.specs.Prelude.{is_some, unwrap_or, Result, Ok, Err}
 use Rattle.paper.specs.Rows.{Rows, no_rows}
 use Rattle.paper.specs.Match.{whole_match, search, match_steps, search_steps, Found, line_and_table, counted, match_call, search_call, is_match, rows_or_none, table_after, Told, told}
 use Rattle.paper.specs.Bounds.{match_bound, search_bound, most_steps}
-use Rattle.paper.proofs.machine.Bound.{steps_bound, search_bound_law, most_told, match_steps_law, search_steps_law, counted_told}
+use Rattle.paper.proofs.machine.Bound.{steps_bound, search_bound_law, match_steps_law, search_steps_law, counted_told}
 use Rattle.pattern.specs.declared.Refused.{Refused}
 use Rattle.pattern.specs.Refusals.{number_of}
 use Rattle.pattern.proofs.Differing.{checked_differ}
@@ -49,27 +49,6 @@ one_match {a = a} {b = b} p q = (answers_differ a b (p.answer ∙ sym q.answer),
 pub one_search : {pattern line lent : List ℕ} {a b : Result declared.Found Refused} {after after' : List ℕ} → Searches pattern line lent a after → Searches pattern line lent b after'
     → (a ≡ b) × (after ≡ after')
 one_search {a = a} {b = b} p q = (answers_differ a b (p.answer ∙ sym q.answer), p.table ∙ sym q.table)
-
--- Steps that can be told
-
-module _ (matched : Bool) (steps : ℕ) where
-  -- what is told of a match or of none
-  abbrev Telling : Told
-  Telling = record { matched = matched; steps = steps }
-
-  -- steps that are no more than can be told are told
-  pub tells : {r : Result declared.Found Refused} → answer_of r ≡ accepted Telling → steps ≤ step_limit → TellsSteps matched steps r
-  tells same few = record {
-    answer = same ∙ sym (ap (λ (b : Bool). holds b too_many_steps 0 >> accepted Telling) (le-leb steps step_limit few));
-    never = λ h. same;
-  }
-
-  -- more are refused; within the limits there are never more
-  pub tells_not : {r : Result declared.Found Refused} → answer_of r ≡ refused too_many_steps 0 → step_limit < steps → TellsSteps matched steps r
-  tells_not same many = record {
-    answer = same ∙ sym (ap (λ (b : Bool). holds b too_many_steps 0 >> accepted Telling) (lt-leb steps step_limit many));
-    never = λ h. absurd (omega (arith, most_told));
-  }
 
 -- The call
 
@@ -123,10 +102,6 @@ module _ (searches : Bool) (pattern line lent : List ℕ) where
   -- a refusal leaves the table as it was
   refuses : (r : Refused) → call_of searches pattern line lent ≡ refused (number_of r.refusal) r.place → Answers searches pattern line lent (Err r) lent
   refuses r e = promised searches pattern line lent (Err r) lent (sym (ap told e)) (sym (ap (λ (c : Checked Found). table_after c lent) e)) (λ f h. omega arith)
-
-  -- 1 to 8
-  pub refuses_pattern : (r : Refused) → pattern_of pattern ≡ refused (number_of r.refusal) r.place → Answers searches pattern line lent (Err r) lent
-  refuses_pattern r e = refuses r (called searches pattern line lent ∙ ap (λ (c : Checked Pattern). calling searches c line lent) e)
 
   module _ (e : Pattern) (found : pattern_of pattern ≡ accepted e) where
     judged : call_of searches pattern line lent

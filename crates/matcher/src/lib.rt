@@ -45,12 +45,7 @@ fn finish(machine: Machine, line: &[u8], table: &mut [u16]) -> Result<Found, Ref
 }
 
 // A whole match or a search: refusals 1 to 8, then the rest.
-fn call(
-    pattern: &[u8],
-    searches: bool,
-    line: &[u8],
-    table: &mut [u16],
-) -> Result<Found, Refused>
+fn call(pattern: &[u8], searches: bool, line: &[u8], table: &mut [u16]) -> Result<Found, Refused>
     ensures { Answers searches pattern.now line.now table.old result table.new }
 {
     let mut code = [0u16; Machine::CODE];

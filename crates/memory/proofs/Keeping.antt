@@ -9,17 +9,17 @@ use mir.Val.{bool_byte}
 use lib.Dec.{eqb}
 use lib.ListN.{length, get_or, set, take, drop, length-drop}
 use lib.Seq.{take_all, drop-length, drop-drop, get_or-take}
-use borrow.Rule.Slice.PartMut.{mid_of, put_mid, put_same, Post-is}
+use borrow.Rule.Slice.PartMut.{mid_of, put_mid, Post-is}
 use Rattle.paper.specs.Limits.{line_bytes}
 use Rattle.paper.specs.Tables.{place_numbers}
-use Rattle.std.specs.Prelude.{Result, Ok, Err}
+use Rattle.std.specs.Prelude.{Result, Ok}
 use Rattle.pattern.specs.declared.Numbers.{Numbers}
 use Rattle.pattern.specs.declared.Refused.{Refused}
 use Rattle.machine.specs.declared.scratch.Scratch.{Scratch}
 use Rattle.machine.specs.Machine.{Ready, Builds}
 use Rattle.machine.specs.Scratch.{Runnable}
 use Rattle.machine.proofs.Wiring.{ready_places, ready_pairs}
-use Rattle.memory.specs.Memory.{head_numbers, places_in, depth_in, searches_in, machine_numbers, scratch_numbers, memories, shortest, MachineOf, Holds, BuildsIn}
+use Rattle.memory.specs.Memory.{head_numbers, places_in, depth_in, searches_in, machine_numbers, scratch_numbers, memories, shortest, MachineOf, Holds}
 
 -- the memory with a table put behind its head
 abbrev with_table : List ℕ → List ℕ → List ℕ
@@ -50,11 +50,6 @@ module _ (machine table : List ℕ) (room : machine_numbers ≤ length machine) 
 module _ (pattern : List ℕ) (searches : Bool) (machine table : List ℕ) (room : machine_numbers ≤ length machine) where
   abbrev Below : Result Numbers Refused → Type 0
   Below r = Builds pattern searches (mid_of head_numbers (length machine - head_numbers) machine) table r
-
-  pub refused_in : {r : Result Numbers Refused} {e : Refused} → Below r → r ≡ Err e → BuildsIn pattern searches machine (with_table machine table) (Err e)
-  refused_in b is =
-      let kept = subst Below is b in
-      (kept.0, ap (λ (l : List ℕ). with_table machine l) kept.1 ∙ put_same head_numbers (length machine - head_numbers) machine)
 
   pub ready_below : {r : Result Numbers Refused} {n : Numbers} → Below r → r ≡ Ok n → Ready pattern table searches n.places n.depth
   ready_below b is = (subst Below is b).0

@@ -29,7 +29,8 @@ pub fn build_in(pattern: &[u8], searches: bool, machine: &mut [u16]) -> Result<N
     Ok(numbers)
 }
 
-// Refusals 11 and 12, which touch nothing, else what the machine finds, its rows in the table.
+// Refusals 11 and 12, which touch nothing, else what the machine finds, its rows in the table. The four memories come one by one, as C lends them
+// (`toj_run`).
 pub fn run_in(
     pattern: &[u8],
     machine: &[u16],
@@ -62,7 +63,7 @@ pub fn run_in(
     matcher::told(ran.rows.is_some(), ran.steps)
 }
 
-// The least of the lengths of the four memories that a machine is run in.
+// The least of the lengths of the four memories that a machine is run in, which `toj_run` tests before it lends them.
 pub fn least_of_four(seen: usize, taken: usize, lists: usize, pending: usize) -> usize
     ensures { result ≡ min (min seen taken) (min lists pending) }
 {

@@ -330,12 +330,22 @@ pub record Along (part : Part) (forks : Bool) (left : Part) (end : ℕ) (before 
   pub same_next : left.next ≡ part.next
   pub row : Several part.pattern.now left.at part.stop forks left.base part.next left.first left.places left.groups
   pub end_is : end ≡ body_end part.pattern.now left.at
-  pub passed : part.at ≤ left.at
+  pub passed : part.at + 4 ≤ left.at
   pub laid : (after : List ℕ) → SeveralLaid part.pattern.now left.at part.stop forks left.base part.next left.first left.places left.groups now after
       → RowMade part forks before after
 
 -- all records are left
-pub along_all : {part : Part} {forks : Bool} {end : ℕ} (t : List ℕ) → RowAsked part forks → end ≡ body_end part.pattern.now part.at → Along part forks part end t t
+pub along_all : {part : Part} {forks : Bool} {end : ℕ} (t : List ℕ) → RowAsked part forks → end ≡ body_end part.pattern.now (part.at + 4)
+    → Along part forks (record {
+      pattern = part.pattern;
+      at = part.at + 4;
+      stop = part.stop;
+      first = part.first;
+      places = part.places;
+      groups = part.groups;
+      base = part.base;
+      next = part.next;
+    }) end t t
 along_all t m ee =
     record { same_pattern = refl; same_stop = refl; same_next = refl; row = m; end_is = ee; passed = omega arith; laid = λ after r. r }
 

@@ -8,13 +8,13 @@ use pattern::{Refused, Spans};
 
 impl Printer {
     // A refusal: its number and its place.
-    pub fn refusal(&mut self, number: usize, place: usize)
+    pub fn refusal(&mut self, refused: Refused)
         ensures { Gathered self.old self.new }
     {
         self.bytes(b"refused ");
-        self.decimal(number as u64);
+        self.decimal(refused.refusal.number() as u64);
         self.bytes(b" ");
-        self.decimal(place as u64);
+        self.decimal(refused.place as u64);
     }
 
     // A row after a space: its start and end, or a dash where it is absent.
@@ -57,8 +57,8 @@ impl Printer {
         ensures { Gathered self.old self.new }
     {
         match answer {
-            Err(refused) => self.refusal(refused.refusal.number(), refused.place),
-            Ok(Found { matched, steps }) => self.outcome(matched.then_some(table), steps, groups),
+            Ok(found) => self.outcome(found.matched.then_some(table), found.steps, groups),
+            Err(refused) => self.refusal(refused),
         }
     }
 }

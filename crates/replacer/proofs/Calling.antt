@@ -1,21 +1,22 @@
--- The call's answer where all of its tests pass: the scan's, and its output at the buffer's front.
-use Prim.Native.Nat.{ℕ, ◌≤◌}
+-- The call's answer where all tests before 13 pass: 13, or the scan's numbers with its output at the buffer's front.
+use Prim.Native.Nat.{ℕ, ◌≤◌, ◌<◌, zero-le}
 use mathlib.Core.Path.{◌≡◌, sym, ap, subst, ◌∙◌}
-use mathlib.Core.Bool.{Bool, true}
+use mathlib.Core.Bool.{Bool, true, false}
 use mathlib.Core.List.{List, ◌++◌}
 use native.Mathlib.Omega.{arith}
 use lib.Dec.{leb}
 use lib.ListN.{length, drop, take-append-drop}
-use borrow.Author.Tests.{le-leb}
+use borrow.Author.Tests.{le-leb, lt-leb}
 use Rattle.paper.specs.Limits.{line_bytes}
-use Rattle.paper.specs.Refusal.{Checked, accepted, ◌>>=◌, ◌>>◌, holds, line_too_long, output_too_long}
+use Rattle.paper.specs.Refusal.{Checked, refused, accepted, ◌>>=◌, ◌>>◌, holds, line_too_long, output_too_long}
 use Rattle.paper.specs.Pattern.{Pattern, groups}
 use Rattle.paper.specs.Check.{pattern_of}
 use Rattle.paper.specs.Template.{Piece, template_of, within}
 use Rattle.paper.specs.Bounds.{replace_bound}
 use Rattle.paper.specs.Replace.{Scanned, replace_all, replace_call, replace_answer, buffer_after}
 use Rattle.paper.proofs.replacing.ReplaceBound.{replace_all_steps}
-use Rattle.std.proofs.Common.{Ok}
+use Rattle.std.proofs.Common.{Ok, Err}
+use Rattle.pattern.specs.declared.Refusal.TheVariants.{OutputTooLong}
 use Rattle.replacer.specs.declared.Replaced.{Replaced}
 use Rattle.turns.specs.Appended.{Appended}
 use Rattle.turns.specs.Accepted.{pieces_of, Right}
@@ -73,7 +74,18 @@ module _ (pattern template line lent : List ℕ) where
           ∙ (λ i. holds (s i) line_too_long 0 >> (holds (r i) output_too_long 0 >> accepted (whole_of pattern template line)))
 
       module _ (small : length line ≤ line_bytes) where
-        -- the scan's output, where it has room
+        -- 13, where the scan's output has no room
+        pub refuses_output : length lent < output → Replaces pattern template line lent (Err (record { refusal = OutputTooLong; place = 0 })) lent
+        refuses_output long =
+            let is : replace_call pattern template line lent ≡ refused output_too_long 0 =
+            by_tests true false (le-leb (length line) line_bytes small) (lt-leb output (length lent) long) in
+            record {
+              answer = sym (ap replace_answer is);
+              buffer = sym (ap (λ (c : Checked Scanned). buffer_after c lent) is);
+              bound = λ e found. zero-le;
+            }
+
+        -- and the scan's output, where it has
         pub replaces : output ≤ length lent → (r : Replaced) → r.length ≡ output → r.replacements ≡ (whole_of pattern template line).replaced
             → r.steps ≡ (whole_of pattern template line).steps → (after : List ℕ) → after ≡ (whole_of pattern template line).output ++ drop output lent
             → Replaces pattern template line lent (Ok r) after

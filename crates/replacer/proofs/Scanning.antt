@@ -173,8 +173,7 @@ module _ {S : Type 0} (room : S → List ℕ → Type 0) (appends : S → List �
           → (replacements + ones ≤ line_bytes + 1) × (steps + more ≤ most_sum)
       scan_fits right lawful {ones} counts {more} adds =
           let short = replace_all_short (tree_of pattern) template line (pieces_of template) right small in
-          let most = replace_all_most (tree_of pattern) template line (pieces_of template) lawful small in
-          (
+          let most = replace_all_most (tree_of pattern) template line (pieces_of template) lawful small in (
             omega (arith, kept.replaced, ap (λ (s : Scanned). s.replaced) here, one (is_some t.put), short.1),
             omega (arith, kept.stepped, ap (λ (s : Scanned). s.steps) here, most),
           )

@@ -3,13 +3,12 @@
 
 mod scans;
 
-ghost use Rattle.std.specs.Prelude.{◌≡◌, Bool};
 ghost use Rattle.machine.specs.Scratch.{Roomy};
-ghost use Rattle.replacer.specs.Given.{Replaceable};
 ghost use Rattle.replacer.specs.Promise.{Replaces};
 
 use machine::{LargeScratch, Machine, Scratch, SmallScratch};
 use pattern::{Line, Refusal, Refused};
+use scans::Scan;
 use turns::output::{Buffer, Length};
 
 // What replace-all answers: the output's length, the replacements and the sum of all searches' steps.
@@ -20,48 +19,38 @@ pub struct Replaced {
     pub steps: u64,
 }
 
-// Refusal 13, else the output in the buffer, in lent scratch: the scan is measured before the first byte is written.
-fn replace_in(
-    machine: Machine,
-    template: &[u8],
-    line: &[u8],
-    scratch: &mut Scratch,
-    buffer: &mut [u8],
-) -> Result<Replaced, Refused>
-    requires given { Replaceable machine.pattern.now template.now line.now }
-    requires built { machine.searches ≡ Bool.true }
-    requires roomy { Roomy machine.places machine.depth scratch.old }
-    ensures { Replaces machine.entry.pattern.now template.now line.now buffer.old result buffer.new }
-{
-    let mut length = Length { bytes: 0 };
-    let scanned = scans::scan(machine, template, line, scratch, &mut length);
-    if buffer.len() < length.bytes {
-        return Err(Refusal::OutputTooLong.at(0));
+impl Scan<'_, '_, '_> {
+    // Refusal 13, else the output in the buffer, in lent scratch: the scan is measured before the first byte is written.
+    fn replace_in(self, scratch: &mut Scratch, buffer: &mut [u8]) -> Result<Replaced, Refused>
+        requires { Roomy self.machine.places self.machine.depth scratch.old }
+        ensures { Replaces self.entry.machine.pattern.now self.entry.template.now self.entry.line.now buffer.old result buffer.new }
+    {
+        let mut length = Length { bytes: 0 };
+        let scanned = self.append_to(scratch, &mut length);
+        if buffer.len() < length.bytes {
+            return Err(Refusal::OutputTooLong.at(0));
+        }
+        let mut written = Buffer {
+            bytes: buffer,
+            end: 0,
+        };
+        self.append_to(scratch, &mut written);
+        Ok(Replaced {
+            length: length.bytes,
+            replacements: scanned.replacements,
+            steps: scanned.steps,
+        })
     }
-    let mut written = Buffer { bytes: buffer, end: 0 };
-    scans::scan(machine, template, line, scratch, &mut written);
-    Ok(Replaced {
-        length: length.bytes,
-        replacements: scanned.replacements,
-        steps: scanned.steps,
-    })
-}
 
-// The same in scratch as large as the machine asks for.
-fn replace_within(
-    machine: Machine,
-    template: &[u8],
-    line: &[u8],
-    buffer: &mut [u8],
-) -> Result<Replaced, Refused>
-    requires given { Replaceable machine.pattern.now template.now line.now }
-    requires built { machine.searches ≡ Bool.true }
-    ensures { Replaces machine.entry.pattern.now template.now line.now buffer.old result buffer.new }
-{
-    if machine::is_small(machine.places, machine.depth) {
-        replace_in(machine, template, line, &mut SmallScratch::new().lend(), buffer)
-    } else {
-        replace_in(machine, template, line, &mut LargeScratch::new().lend(), buffer)
+    // The same in scratch as large as the machine asks for.
+    fn replace(self, buffer: &mut [u8]) -> Result<Replaced, Refused>
+        ensures { Replaces self.entry.machine.pattern.now self.entry.template.now self.entry.line.now buffer.old result buffer.new }
+    {
+        if machine::is_small(self.machine.places, self.machine.depth) {
+            self.replace_in(&mut SmallScratch::new().lend(), buffer)
+        } else {
+            self.replace_in(&mut LargeScratch::new().lend(), buffer)
+        }
     }
 }
 
@@ -88,5 +77,10 @@ pub fn replace_all(
         places: numbers.places,
         depth: numbers.depth,
     };
-    replace_within(machine, template, line, buffer)
+    let scan = Scan {
+        machine,
+        template,
+        line,
+    };
+    scan.replace(buffer)
 }

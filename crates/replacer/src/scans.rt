@@ -1,13 +1,31 @@
 // The scan over the line, search by search.
-ghost use Rattle.std.specs.Prelude.{◌≡◌, Bool};
-ghost use Rattle.machine.specs.Scratch.{Runnable, Lasts};
-ghost use Rattle.turns.specs.Accepted.{Right};
-ghost use Rattle.replacer.specs.Given.{whole_of};
+ghost use Rattle.std.specs.Prelude.{◌≡◌, ◌≤◌, Bool, length};
+ghost use Rattle.machine.specs.Scratch.{Roomy, Runnable, Lasts};
+ghost use Rattle.std.proofs.Props.{props};
+ghost use Rattle.paper.specs.Limits.{line_bytes};
+ghost use Rattle.paper.specs.Refusal.{accepted};
+ghost use Rattle.paper.specs.Pattern.{groups};
+ghost use Rattle.paper.specs.Template.{within};
+ghost use Rattle.turns.specs.Accepted.{pieces_of, Right};
+ghost use Rattle.replacer.specs.Given.{tree_of, whole_of};
 ghost use Rattle.replacer.specs.Scans.{Turns, Counts};
 
 use machine::{Machine, Scratch};
 use turns::Turn;
 use turns::output::Output;
+
+// What is scanned, by what, and what is put in: a machine built for searching, a template whose references are within its groups, and a line
+// within the limit.
+#[derive(Clone, Copy)]
+pub struct Scan<'m, 't, 'l> {
+    pub machine: Machine<'m>,
+    pub template: &'t [u8],
+    pub line: &'l [u8],
+    pub ghost built: { machine.searches ≡ Bool.true },
+    pub ghost right: { Right template.now } by { Prim.hlevel props },
+    pub ghost low: { within (pieces_of template.now) (groups (tree_of machine.pattern.now)) ≡ accepted tt } by { Prim.hlevel props },
+    pub ghost short: { length line.now ≤ line_bytes },
+}
 
 // What a scan gives beside its output: the replacements and the sum of all searches' steps.
 #[derive(Clone, Copy)]
@@ -16,53 +34,40 @@ pub struct Scanned {
     pub steps: u64,
 }
 
-// The turn of the search of the line from a position on, by a machine built for searching.
-fn search_turn(
-    machine: Machine,
-    line: &[u8],
-    scratch: &mut Scratch,
-    from: usize,
-    last: Option<usize>,
-) -> Turn
-    requires built { machine.searches ≡ Bool.true }
-    requires runnable { Runnable machine.places machine.depth line.now from scratch.old }
-    ensures turns { Turns machine.entry.pattern.now line.now from last result }
-    ensures lasts { Lasts scratch.old scratch.new }
-{
-    let ran = machine.search_rows(line, from, scratch);
-    turns::turn_of(line.len(), last, ran.rows, ran.steps)
-}
-
-// Appends what the scan of the whole line writes to the output.
-pub fn scan<O: Output>(
-    machine: Machine,
-    template: &[u8],
-    line: &[u8],
-    scratch: &mut Scratch,
-    output: &mut O,
-) -> Scanned
-    requires right { Right template.now }
-    requires built { machine.searches ≡ Bool.true }
-    requires runnable { Runnable machine.places machine.depth line.now 0 scratch.old }
-    requires room { O.has_room output.old (whole_of machine.pattern.now template.now line.now).output }
-    ensures written { O.appends output.old (whole_of machine.entry.pattern.now template.now line.now).output output.new }
-    ensures counts { Counts machine.entry.pattern.now template.now line.now result }
-    ensures lasts { Lasts scratch.old scratch.new }
-{
-    let mut goes = Some(0);
-    let mut last = None;
-    let mut replacements = 0;
-    let mut steps: u64 = 0;
-    while let Some(from) = goes {
-        let turn = search_turn(machine, line, scratch, from, last);
-        turn.write(template, line, from, output);
-        replacements += usize::from(turn.put.is_some());
-        steps += u64::from(turn.steps);
-        goes = turn.goes;
-        last = turn.last;
+impl Scan<'_, '_, '_> {
+    // The turn of the search from a position on.
+    fn turn(self, scratch: &mut Scratch, from: usize, last: Option<usize>) -> Turn
+        requires { Runnable self.machine.places self.machine.depth self.line.now from scratch.old }
+        ensures turns { Turns self.entry.machine.pattern.now self.entry.line.now from last result }
+        ensures lasts { Lasts scratch.old scratch.new }
+    {
+        let ran = self.machine.search_rows(self.line, from, scratch);
+        turns::turn_of(self.line.len(), last, ran.rows, ran.steps)
     }
-    Scanned {
-        replacements,
-        steps,
+
+    // Appends what the scan of the whole line writes to the output.
+    pub fn append_to<O: Output>(self, scratch: &mut Scratch, output: &mut O) -> Scanned
+        requires roomy { Roomy self.machine.places self.machine.depth scratch.old }
+        requires room { O.has_room output.old (whole_of self.machine.pattern.now self.template.now self.line.now).output }
+        ensures written { O.appends output.old (whole_of self.entry.machine.pattern.now self.entry.template.now self.entry.line.now).output output.new }
+        ensures counts { Counts self.entry.machine.pattern.now self.entry.template.now self.entry.line.now result }
+        ensures lasts { Lasts scratch.old scratch.new }
+    {
+        let mut goes = Some(0);
+        let mut last = None;
+        let mut replacements = 0;
+        let mut steps: u64 = 0;
+        while let Some(from) = goes {
+            let turn = self.turn(scratch, from, last);
+            turn.write(self.template, self.line, from, output);
+            replacements += usize::from(turn.put.is_some());
+            steps += u64::from(turn.steps);
+            goes = turn.goes;
+            last = turn.last;
+        }
+        Scanned {
+            replacements,
+            steps,
+        }
     }
 }

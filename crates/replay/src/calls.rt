@@ -65,6 +65,7 @@ fn print_numbers(numbers: &[usize], p: &mut Printer)
     }
 }
 
+// A pattern's places, depth and groups.
 fn check(pattern: &[u8], p: &mut Printer)
     ensures { Gathered p.old p.new }
 {
@@ -73,7 +74,7 @@ fn check(pattern: &[u8], p: &mut Printer)
             p.bytes(b"ok");
             print_numbers(&[numbers.places, numbers.depth, numbers.groups], p);
         }
-        Err(refused) => p.refusal(refused.refusal.number(), refused.place),
+        Err(refused) => p.refusal(refused),
     }
 }
 
@@ -92,19 +93,13 @@ fn find_in(call: Call, pattern: &[u8], line: &[u8], table: &mut [u16], p: &mut P
     ensures { Gathered p.old p.new }
 {
     match call.make(pattern, line, table) {
-        Err(refused) => p.refusal(refused.refusal.number(), refused.place),
         Ok(Found { matched, steps }) => {
-            print_steps(if matched { b"whole " } else { b"none " }, steps, p);
+            p.bytes(if matched { b"whole " } else { b"none " });
+            p.decimal(u64::from(steps));
         }
+        Err(refused) => p.refusal(refused),
     }
     print_table(table, p);
-}
-
-fn print_steps(outcome: &[u8], steps: u32, p: &mut Printer)
-    ensures { Gathered p.old p.new }
-{
-    p.bytes(outcome);
-    p.decimal(u64::from(steps));
 }
 
 // The numbers of a table after a space, the lower byte of each first; none as a dot.
@@ -126,17 +121,17 @@ fn replace(pattern: &[u8], template: &[u8], line: &[u8], buffer: &mut [u8], p: &
 {
     buffer.fill(FILL);
     match replacer::replace_all(pattern, template, line, buffer) {
-        Err(refused) => {
-            p.refusal(refused.refusal.number(), refused.place);
-            print_change(buffer, p);
-        }
-        Ok(done) => {
-            let (output, rest) = buffer.split_at(done.length);
+        Ok(replaced) => {
+            let (output, rest) = buffer.split_at(replaced.length);
             p.byte_string(output);
-            print_numbers(&[done.length, done.replacements], p);
+            print_numbers(&[replaced.length, replaced.replacements], p);
             p.bytes(b" ");
-            p.decimal(done.steps);
+            p.decimal(replaced.steps);
             print_change(rest, p);
+        }
+        Err(refused) => {
+            p.refusal(refused);
+            print_change(buffer, p);
         }
     }
 }
@@ -155,7 +150,6 @@ fn piece(template: &[u8], line: &[u8], table: &[u16], number: usize, p: &mut Pri
     ensures { Gathered p.old p.new }
 {
     match template::piece(template, line, table, number) {
-        Err(refused) => p.refusal(refused.refusal.number(), refused.place),
         Ok(span) => {
             p.bytes(match span.source {
                 Source::Template => b"template",
@@ -165,5 +159,6 @@ fn piece(template: &[u8], line: &[u8], table: &[u16], number: usize, p: &mut Pri
             p.bytes(b" ");
             p.byte_string(template::part(template, line, table, number));
         }
+        Err(refused) => p.refusal(refused),
     }
 }

@@ -68,8 +68,8 @@ impl Record {
         ensures { result ≡ next_of self }
     {
         match self {
-            Record::Literal { start: _, end } => end,
-            Record::Reference { row: _, next } => next,
+            Record::Literal { end, .. } => end,
+            Record::Reference { next, .. } => next,
         }
     }
 }
@@ -84,11 +84,7 @@ pub fn record_at(template: &[u8], at: usize) -> Option<Record>
         LITERAL if start < end => Some(Record::Literal { start, end }),
         REFERENCE if end - start == 2 => {
             let row = number_at(template, start);
-            if row <= Pattern::GROUPS {
-                Some(Record::Reference { row, next: end })
-            } else {
-                None
-            }
+            (row <= Pattern::GROUPS).then_some(Record::Reference { row, next: end })
         }
         _ => None,
     }
@@ -139,6 +135,7 @@ pub fn check_template(template: &[u8]) -> Result<usize, Refused>
         return Err(Refusal::TemplateWrong.at(0));
     }
     let mut records = Records::new(template);
+    // the library's `count` does not say where it leaves the walk, which is the answer
     let mut count = 0;
     while let Some(_) = records.next() {
         count += 1;
@@ -155,7 +152,7 @@ fn first_too_high(template: &[u8], groups: usize) -> Result<(), Refused>
     ensures { (pieces : List paper.Piece) → template_of template.now ≡ accepted pieces → references_of result ≡ within pieces groups }
 {
     for (at, record) in Records::new(template) {
-        if let Record::Reference { row, next: _ } = record {
+        if let Record::Reference { row, .. } = record {
             if groups < row {
                 return Err(Refusal::ReferenceTooHigh.at(at));
             }
@@ -199,7 +196,7 @@ pub fn piece(template: &[u8], line: &[u8], table: &[u16], number: usize) -> Resu
     match Records::new(template).nth(number) {
         None => Err(Refusal::NoSuchPiece.at(0)),
         Some((_, Record::Literal { start, end })) => Ok(Span::new(Source::Template, start, end)),
-        Some((_, Record::Reference { row, next: _ })) => row_part(line.len(), table, row),
+        Some((_, Record::Reference { row, .. })) => row_part(line.len(), table, row),
     }
 }
 

@@ -41,31 +41,18 @@ fn match_turn(size: usize, last: Option<usize>, rows: [u16; Spans::NUMBERS], ste
     let start = usize::from(rows[0]);
     let end = usize::from(rows[1]);
     let put = is_replaced(start, end, last).then_some(rows);
-    if start < end {
-        return Turn {
-            start,
-            put,
-            upto: start,
-            goes: Some(end),
-            last: Some(end),
-            steps,
-        };
-    }
-    if start < size {
-        return Turn {
-            start,
-            put,
-            upto: start + 1,
-            goes: Some(start + 1),
-            last,
-            steps,
-        };
-    }
+    let (upto, goes, last) = if start < end {
+        (start, Some(end), Some(end))
+    } else if start < size {
+        (start + 1, Some(start + 1), last)
+    } else {
+        (start, None, last)
+    };
     Turn {
         start,
         put,
-        upto: start,
-        goes: None,
+        upto,
+        goes,
         last,
         steps,
     }

@@ -15,10 +15,13 @@ pub trait Output {
         requires { has_room self.old bytes.now }
         ensures { appends self.old bytes.now self.new };
 
+    // to append nothing changes nothing
     ghost appends_none: { (s : Self) → appends s [] s };
 
+    // one after another are both
     ghost appends_both: { (s t u : Self) (first second : List ℕ) → appends s first t → appends t second u → appends s (first ++ second) u };
 
+    // where both have room, so has the first, and then the second
     ghost room_first: { (s : Self) (first second : List ℕ) → has_room s (first ++ second) → has_room s first };
 
     ghost room_second: { (s t : Self) (first second : List ℕ) → has_room s (first ++ second) → appends s first t → has_room t second };

@@ -29,7 +29,7 @@ pub fn put<O: Output>(template: &[u8], line: &[u8], rows: [u16; Spans::NUMBERS],
     for (_, record) in Records::new(template) {
         match record {
             Record::Literal { start, end } => output.append(&template[start..end]),
-            Record::Reference { row, next: _ } => output.append(row_bytes(line, rows, row)),
+            Record::Reference { row, .. } => output.append(row_bytes(line, rows, row)),
         }
     }
 }

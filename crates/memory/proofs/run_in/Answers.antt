@@ -1,6 +1,6 @@
 -- What was found, told and written is the call's answer; 11 and 12 come before anything is touched.
 use Rattle.std.proofs.Common.{◌∙◌, ap, unwrap_or}
-use Rattle.matcher.proofs.Answering.{lent_right, answers, not_refused, refuses_lent}
+use Rattle.matcher.proofs.Answering.{lent_right, answers, not_refused}
 use Rattle.memory.specs.Memory.{searches_in}
 use Rattle.memory.proofs.Keeping.{ready_behind, ready_in}
 use Rattle.memory.proofs.run_in.Goals as goal
