@@ -1,4 +1,5 @@
 use Rattle.std.proofs.Common.{sym, subst}
+use Rattle.paper.specs.Replace.{row_bytes}
 use Rattle.template.specs.declared.Record.{Record}
 use Rattle.turns.proofs.PutIn.{put_start, put_room, put_more, put_end}
 use Rattle.turns.proofs.putting.Sources.put.Goals as goal
@@ -32,7 +33,7 @@ loop-record-preserved-in-Literal g c =
 pub append-requires-in-Reference : goal.append-requires-in-Reference
 append-requires-in-Reference g c =
     let l = c.loop-record in
-    subst (g.O.Output.has_room l.output) (sym c.row_bytes.ensures)
+    subst (g.O.Output.has_room l.output) (sym {b = row_bytes c.args.self.line.now c.args.rows c.in-Reference.row} c.row_bytes.ensures)
     (put_room g.O.Output.has_room g.O.Output.appends c.args.self.template.now c.args.self.line.now c.args.rows c.args.output.now l.record-iterator c.next.new.self l.output
     l.invariant.2 c.in-Some.field-0-0 (Record.Reference c.in-Reference.row c.in-Reference.next) (rw c.in-Reference.is at c.in-Some.ensures.steps)
     g.met.O.Output.room_first)
