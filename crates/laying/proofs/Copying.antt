@@ -4,7 +4,7 @@ use mathlib.Core.Path.{◌≡◌, refl, sym, ap, subst, ◌∙◌}
 use mathlib.Core.Bool.{Bool, true, false, cond}
 use mathlib.Core.List.{List, [], ◌∷◌}
 use native.Mathlib.Omega.{arith}
-use borrow.Author.Tests.{ltb-true, ltb-false, lt-ltb, le-ltb, eq-eqb, ne_eqb}
+use borrow.Author.Tests.{ltb-true, ltb-false, lt-ltb, le-ltb, ne_eqb}
 use lib.Dec.{ltb, eqb}
 use lib.ListN.{get_or}
 use Rattle.paper.specs.Pattern.{Mode, greedy, lazy}
@@ -12,7 +12,6 @@ use Rattle.paper.specs.Check.{part, ranges_of}
 use Rattle.paper.specs.Machine.{Core, dead, skip, eats, captures, chain, either, must, maybe, star, Place, one_of, stop, fork, opening, closing, begin, begin_optional, ending, accept, size, pass_fork}
 use Rattle.paper.specs.Tables.{place_of, place_kind_at, place_next_at, place_first_at, place_many_at}
 use Rattle.laying.specs.Laid.{Holds, Kept, entry_of, Lays}
-use Rattle.laying.specs.Single.{Put}
 use Rattle.laying.specs.Copies.{moved_to, moved_other, Model, in_place, ahead, Moving, PutMoved, PlaceMoved, Copied}
 use Rattle.laying.proofs.Stores.{agree, kept_both}
 use Rattle.laying.proofs.Entering.{entry_none, entry_some}

@@ -12,7 +12,7 @@ use Rattle.laying.specs.Room.{most_places}
 use Rattle.pattern.specs.Walk.{pass_places}
 use Rattle.laying.specs.Laid.{Holds, Kept, entry_of, Lays}
 use Rattle.laying.specs.Single.{Fitting, Put, Forked}
-use Rattle.laying.specs.Copies.{Model, in_place, ahead, Moving, Copied}
+use Rattle.laying.specs.Copies.{Model, in_place, ahead, Copied}
 use Rattle.laying.specs.Repeats.{pass_core, inner_start, Begun, BegunLaid, Repeating, PassesLaid, PassesLeft}
 use Rattle.laying.proofs.Stores.{plain_holds, holds_kept, lays_kept, lays_behind, kept_none, kept_both}
 use Rattle.laying.proofs.Entering.{entry_some, entry_small, entry_same, passes_some, passes_none, places_must, places_may, inner_must, inner_may, core_must, core_none, core_star, core_maybe, must_lays, maybe_lays, star_lays, end_small}

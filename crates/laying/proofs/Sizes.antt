@@ -1,15 +1,14 @@
 -- A run of passes has so many places, and those tell the places of the inner part.
-use Prim.Native.Nat.{ℕ, zero, suc, ◌+◌, ◌*◌, ◌≤◌, ◌-◌, ◌/◌}
+use Prim.Native.Nat.{ℕ, zero, suc, ◌+◌, ◌*◌, ◌≤◌}
 use mathlib.Core.Path.{◌≡◌, refl, ap, ◌∙◌}
 use mathlib.Core.Bool.{Bool, true, false}
-use native.Mathlib.Nat.{zero-mul, mul_comm, one-mul, mul-one, mul-add, add-mul, mul-div_cancel_left}
+use native.Mathlib.Nat.{zero-mul}
 use native.Mathlib.Omega.{arith}
 use Rattle.paper.specs.Pattern.{Mode}
 use Rattle.paper.specs.Machine.{Core, size, maybes, maybe}
 use Rattle.paper.proofs.machine.Sizes.{size_musts, size_maybes}
 use Rattle.pattern.specs.Walk.{pass_places}
-use Rattle.laying.specs.Repeats.{optional_core, pass_core, Passed, PassedInside}
-use Rattle.laying.proofs.Entering.{at_least_one}
+use Rattle.laying.specs.Repeats.{optional_core, pass_core}
 
 -- optional passes with an upper end are paper's
 pub optional_maybes : (m : ℕ) (mode : Mode) (first n : ℕ) (e : Core) → optional_core false m mode first n e ≡ maybes m mode first n e

@@ -8,7 +8,7 @@ use mathlib.Core.Logic.{◌⊎◌, inl, inr}
 use Rattle.std.specs.Prelude.{Some}
 use native.Mathlib.Nat.{mul-le-mul_right, min-eq_left}
 use native.Mathlib.Omega.{arith}
-use borrow.Author.Tests.{ne_eqb, lt-ltb}
+use borrow.Author.Tests.{lt-ltb}
 use lib.Dec.{ltb}
 use lib.ListN.{length}
 use Rattle.paper.specs.Limits.{pattern_bytes, pattern_places}
@@ -21,7 +21,7 @@ use Rattle.paper.specs.Check.{number_at, kind_at, body_start, body_end, upper_of
 use Rattle.paper.proofs.layout.RepeatBody.{upper_of_number}
 use Rattle.paper.proofs.layout.MemberList.{list_of}
 use Rattle.pattern.specs.Walk.{capped, places_in, groups_in}
-use Rattle.pattern.proofs.Counting.{repeat_passes, Bounded, bounded_counts}
+use Rattle.pattern.proofs.Counting.{repeat_passes}
 use Rattle.pattern.specs.declared.Kind.{Kind}
 use Rattle.pattern.specs.declared.Kind.TheVariants.{Nothing, Empty, Bytes}
 use Rattle.places.specs.declared.sums.Sums.{Sums}
@@ -312,10 +312,6 @@ pub record Summing (all left : Records) (sums : Sums) : Type 0 where
   pub same_pattern : left.pattern ≡ all.pattern
   pub same_stop : left.stop ≡ all.stop
   pub adding : Adding all.pattern.now all.at all.stop left.at sums.places sums.groups sums.records
-
--- nothing is summed where it begins
-pub summing_none : (all : Records) → Summing all all (record { places = 0; groups = 0; records = 0 })
-summing_none all = record { same_pattern = refl; same_stop = refl; adding = adding_none all.at all.stop }
 
 -- a turn of the loop
 module _ {all left next : Records} {sums : Sums} {r : Record} (m : Waiting all) (s : Summing all left sums) (g : Goes left (Some r) next) where

@@ -17,13 +17,12 @@ use Rattle.paper.proofs.machine.Sizes.{size_written}
 use Rattle.laying.specs.Room.{most_places}
 use Rattle.laying.specs.Laid.{Holds, Kept, Lays}
 use Rattle.laying.specs.Single.{Put, StarLaid}
-use Rattle.laying.proofs.Stores.{put_holds, plain_holds, holds_kept, lays_kept, kept_both}
+use Rattle.laying.proofs.Stores.{put_holds, lays_kept, kept_both}
 use Rattle.laying.proofs.Entering.{entry_some}
 use Rattle.places.specs.Walk.{One, OneLaid, GroupLaid}
 use Rattle.places.specs.Built.{Accepted, Built}
 use Rattle.places.proofs.Walked.{Whole, pattern_stands}
 use Rattle.places.proofs.Listing.{listed, lists_one, lists_both, lays_lists, decode_listed}
-use Rattle.places.proofs.Records.{captures_lays}
 use Rattle.places.proofs.Rows.{chain_lays}
 
 -- the places that checking told are the tree's

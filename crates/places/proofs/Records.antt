@@ -12,10 +12,9 @@ use Rattle.paper.specs.Machine.{Core, captures, size, written_out, opening, clos
 use Rattle.paper.proofs.machine.Sizes.{size_written}
 use Rattle.pattern.specs.declared.Kind.{Kind}
 use Rattle.laying.specs.Laid.{Holds, Kept, entry_of, Lays}
-use Rattle.laying.specs.Single.{Fitting, Put, Ranged, RangedLaid, Head}
+use Rattle.laying.specs.Single.{Put, Ranged, RangedLaid}
 use Rattle.laying.proofs.Stores.{put_holds, plain_holds, holds_kept, lays_kept, lays_none, kept_none, kept_both}
-use Rattle.laying.proofs.Entering.{entry_small, at_least_one}
-use Rattle.laying.proofs.Single.{head_stands}
+use Rattle.laying.proofs.Entering.{at_least_one}
 use Rattle.places.specs.Walk.{One, OneLaid, Group, GroupLaid, Several, SeveralLaid, Repeat, RepeatLaid}
 use Rattle.places.specs.Standing.{Row}
 use Rattle.places.specs.Sums.{number_of, KindAt}

@@ -20,7 +20,6 @@ use Rattle.laying.proofs.Stores.{kept_both}
 use Rattle.laying.proofs.Entering.{passes_none, first_inner}
 use Rattle.laying.proofs.Sizes.{optional_maybes}
 use Rattle.places.specs.Walk.{One, OneLaid, Repeat, RepeatLaid}
-use Rattle.places.proofs.Adding.{counts_right}
 
 -- they are the repeat written out
 passes_core : (endless : Bool) (least most : ℕ) (mode : Mode) (first g : ℕ) (e : Core)

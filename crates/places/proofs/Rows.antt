@@ -5,7 +5,6 @@ use mathlib.Core.Bool.{Bool, true, false, false≢true}
 use mathlib.Core.List.{List, [], ◌∷◌}
 use native.Mathlib.Omega.{arith}
 use mir.Val.{bool_byte as from_bool}
-use lib.ListN.{length}
 use Rattle.paper.specs.Pattern.{Pattern, places, groups}
 use Rattle.paper.specs.Check.{body_end}
 use Rattle.paper.specs.Machine.{Core, chain, either, size, written_out, fork}
@@ -13,7 +12,7 @@ use Rattle.paper.proofs.machine.Sizes.{size_written}
 use Rattle.laying.specs.Room.{most_places}
 use Rattle.pattern.specs.Walk.{places_in, groups_in}
 use Rattle.laying.specs.Laid.{Holds, entry_of, Lays}
-use Rattle.laying.specs.Single.{Fitting, Put}
+use Rattle.laying.specs.Single.{Put}
 use Rattle.laying.proofs.Stores.{plain_holds, holds_kept, lays_kept, kept_both}
 use Rattle.laying.proofs.Entering.{entry_small}
 use Rattle.places.specs.Sums.{Counting, Counted}
@@ -333,21 +332,6 @@ pub record Along (part : Part) (forks : Bool) (left : Part) (end : ℕ) (before 
   pub passed : part.at + 4 ≤ left.at
   pub laid : (after : List ℕ) → SeveralLaid part.pattern.now left.at part.stop forks left.base part.next left.first left.places left.groups now after
       → RowMade part forks before after
-
--- all records are left
-pub along_all : {part : Part} {forks : Bool} {end : ℕ} (t : List ℕ) → RowAsked part forks → end ≡ body_end part.pattern.now (part.at + 4)
-    → Along part forks (record {
-      pattern = part.pattern;
-      at = part.at + 4;
-      stop = part.stop;
-      first = part.first;
-      places = part.places;
-      groups = part.groups;
-      base = part.base;
-      next = part.next;
-    }) end t t
-along_all t m ee =
-    record { same_pattern = refl; same_stop = refl; same_next = refl; row = m; end_is = ee; passed = omega arith; laid = λ after r. r }
 
 -- one record less
 pub along_one : {part left : Part} {forks : Bool} {end end' head out p g k : ℕ} {t0 t t1 t2 : List ℕ} → Along part forks left end t0 t → (end ≡ part.stop → ⊥)

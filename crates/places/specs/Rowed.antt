@@ -1,5 +1,5 @@
 -- Records of an accepted pattern that stand one after another, one by one.
-use Rattle.std.specs.Prelude.{ℕ, ◌≤◌, ◌<◌, ◌≡◌, Option, Some, None}
+use Rattle.std.specs.Prelude.{◌≤◌, ◌<◌, ◌≡◌, Option, Some, None}
 use Rattle.paper.specs.Check.{body_end}
 use Rattle.places.specs.Sums.{Counting, Counted}
 use Rattle.places.specs.declared.sums.Sums.{Sums}

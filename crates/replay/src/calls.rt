@@ -65,6 +65,7 @@ fn print_numbers(numbers: &[usize], p: &mut Printer)
     }
 }
 
+// A pattern's places, depth and groups.
 fn check(pattern: &[u8], p: &mut Printer)
     ensures { Gathered p.old p.new }
 {

@@ -1,6 +1,6 @@
 -- Each answer asks for the record that is counted, and the law for what is told of it.
 use Rattle.std.proofs.Common.{◌+◌, arith}
-use Rattle.places.proofs.Adding.{first, first_kind, inside_after, read_inside, read_own, read_groups, read_all, place_counted, empty_counted, summing_none, summing_inside, summing_alone, summing_few, summing_more, summing_left, summing_all}
+use Rattle.places.proofs.Adding.{first, first_kind, inside_after, read_inside, read_own, read_groups, read_all, place_counted, empty_counted, summing_inside, summing_alone, summing_few, summing_more, summing_left, summing_all}
 use Rattle.places.specs.Sums.{number_of}
 use Rattle.places.proofs.sums.+counting.Goals as goal
 

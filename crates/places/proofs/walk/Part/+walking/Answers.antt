@@ -2,7 +2,7 @@
 use Rattle.std.proofs.Common.{arith, refl, sym, ◌∙◌, false, true}
 use Rattle.places.proofs.Repeats.{inner_ask, passes_ask, repeat_passes}
 use Rattle.places.proofs.Records.{nothing_to_lay, empty_laid, stop_laid, set_ask, set_laid, captured_laid, group_two, group_some, group_ask, group_laid, repeat_ask, repeat_laid, row_ask, row_laid, in_sequence, in_alternation, kind_found}
-use Rattle.places.proofs.Rows.{more_counting, more_few, more_inside, join_sum, join_ask, join_one, join_rest, row_header, along_all, along_one, along_ask, along_last}
+use Rattle.places.proofs.Rows.{more_counting, more_few, more_inside, join_sum, join_ask, join_one, join_rest, row_header, along_one, along_ask, along_last}
 use Rattle.places.proofs.walk.Part.+walking.Goals as goal
 
 pub captured-one-requires : goal.captured-one-requires
