@@ -184,6 +184,7 @@ impl Part<'_> {
             ..self
         };
         let mut end = record_end(self.pattern, left.at);
+        // No `for` over `Records`: the last record is not counted, it has what is left, and each would be asked whether it is the last.
         while end != self.stop {
             let record = Record {
                 pattern: self.pattern,
