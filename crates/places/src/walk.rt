@@ -172,6 +172,7 @@ impl Part<'_> {
     }
 
     // The places of the records inside one, as a sequence or with the forks of an alternation, one before each record but the last.
+    // No `for` over `Records`: the last record is not counted, it has what is left, and each would be asked whether it is the last.
     #[cycle(walking)]
     #[inline(never)]
     fn row(&self, table: &mut Table, forks: bool)
@@ -179,32 +180,24 @@ impl Part<'_> {
         ensures { Writes (RowMade self.now forks) table.old table.new }
     {
         let head = usize::from(forks);
-        let mut left = Part {
-            at: self.at + 4,
-            ..*self
-        };
-        let mut end = record_end(self.pattern, left.at);
-        // No `for` over `Records`: the last record is not counted, it has what is left, and each would be asked whether it is the last.
+        let pattern = self.pattern;
+        let at = self.at + 4;
+        let mut left = Part { at, ..*self };
+        let mut end = record_end(pattern, at);
         while end != self.stop {
-            let record = Record {
-                pattern: self.pattern,
-                at: left.at,
-                end,
-            };
-            let own = record.sums();
+            let at = left.at;
+            let own = Record { pattern, at, end }.sums();
             let base = left.base + head;
             let second = base + own.places;
             let rest = left.places - head - own.places;
             let next = left.joined(table, forks, own.places, second, rest);
             let one = Part {
-                at: left.at,
                 stop: end,
-                first: left.first,
                 places: own.places,
                 groups: own.groups,
                 base,
                 next,
-                ..*self
+                ..left
             };
             one.one(table);
             left = Part {
@@ -215,7 +208,7 @@ impl Part<'_> {
                 base: second,
                 ..left
             };
-            end = record_end(self.pattern, end);
+            end = record_end(pattern, end);
         }
         left.one(table);
     }
