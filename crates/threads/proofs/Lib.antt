@@ -1,4 +1,3 @@
 -- The laws that the answers cite, by topic.
-pub mod Clearing
 pub mod Stores
 pub mod Stamps
