@@ -48,12 +48,12 @@ pub fn next_record(bytes: &[u8], at: usize, stop: usize, kind: usize) -> Next
         return Next::End;
     }
     match records::header_at(bytes, at, stop) {
-        Header::Broken => Next::Broken,
-        Header::Record {
+        None => Next::Broken,
+        Some(Header {
             kind: found,
             start,
             end,
-        } => {
+        }) => {
             if found == kind {
                 if end - start <= Job::BODY {
                     return Next::Body { start, end };

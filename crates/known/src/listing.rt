@@ -108,10 +108,10 @@ fn begin(to: Stdout, out: &mut [u8], at: usize, words: &[u8], first: u16, count:
 fn pass(to: Stdout, out: &mut [u8], at: usize, kind: u16, first: u16, count: u16) -> usize
     ensures { Gathered at result }
 {
-    if kind == PlaceKind::BEGIN {
+    if kind == PlaceKind::Begin as u16 {
         return begin(to, out, at, b"begin", first, count);
     }
-    if kind == PlaceKind::BEGIN_OPTIONAL {
+    if kind == PlaceKind::BeginOptional as u16 {
         return begin(to, out, at, b"begin optional", first, count);
     }
     printer::bytes(to, out, at, b"end", false)
@@ -121,7 +121,7 @@ fn pass(to: Stdout, out: &mut [u8], at: usize, kind: u16, first: u16, count: u16
 fn group(to: Stdout, out: &mut [u8], at: usize, kind: u16, number: u16) -> usize
     ensures { Gathered at result }
 {
-    if kind == PlaceKind::OPEN {
+    if kind == PlaceKind::Open as u16 {
         return labelled(to, out, at, b"open ", wide(number));
     }
     labelled(to, out, at, b"close ", wide(number))
@@ -139,13 +139,13 @@ fn action(
 ) -> usize
     ensures { Gathered at result }
 {
-    if kind < PlaceKind::BEGIN {
+    if kind < PlaceKind::Begin as u16 {
         return group(to, out, at, kind, a);
     }
-    if kind < PlaceKind::SET {
+    if kind < PlaceKind::Set as u16 {
         return pass(to, out, at, kind, a, many);
     }
-    if kind == PlaceKind::SET {
+    if kind == PlaceKind::Set as u16 {
         return set(to, out, at, pattern, wide(a), wide(many));
     }
     single(to, out, at, a, many)
@@ -172,13 +172,13 @@ fn deed(
 ) -> usize
     ensures { Gathered at result }
 {
-    if kind == PlaceKind::FORK {
+    if kind == PlaceKind::Fork as u16 {
         return fork(to, out, at, next, a);
     }
-    if kind == PlaceKind::STOP {
+    if kind == PlaceKind::Stop as u16 {
         return printer::bytes(to, out, at, b"stop", false);
     }
-    if kind == PlaceKind::ACCEPT {
+    if kind == PlaceKind::Accept as u16 {
         return printer::bytes(to, out, at, b"accept", false);
     }
     let n = action(to, out, at, pattern, kind, a, many);

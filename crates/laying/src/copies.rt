@@ -37,7 +37,7 @@ fn moved_other(shift: Shift, kind: u16, a: usize) -> usize
     requires small { a ≤ most_number }
     ensures { (result ≡ moved_other shift.from shift.count shift.to shift.next kind a) × (result ≤ most_number) }
 {
-    if kind == PlaceKind::FORK {
+    if kind == PlaceKind::Fork as u16 {
         moved(shift, a)
     } else {
         a

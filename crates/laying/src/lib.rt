@@ -11,7 +11,6 @@ ghost use Rattle.laying.specs.Room.{table_room};
 ghost use Rattle.laying.specs.Single.{Fitting, Put, Forked, Ranged, RangedLaid, Star, StarLaid};
 
 use pattern::{Pattern, PlaceKind};
-use records::wide;
 
 // Writes a place's four numbers.
 pub fn put(table: &mut [u16], x: usize, kind: u16, next: usize, a: usize, n: usize)
@@ -46,11 +45,11 @@ pub fn set_place(
     ensures { RangedLaid pattern.now start stop base next table.old table.new }
 {
     if stop - start == 2 {
-        let low = wide(pattern[start]);
-        let high = wide(pattern[start + 1]);
-        put(table, base, PlaceKind::RANGE, next, low, high);
+        let low = usize::from(pattern[start]);
+        let high = usize::from(pattern[start + 1]);
+        put(table, base, PlaceKind::Range as u16, next, low, high);
     } else {
-        put(table, base, PlaceKind::SET, next, start, (stop - start) / 2);
+        put(table, base, PlaceKind::Set as u16, next, start, (stop - start) / 2);
     }
 }
 
@@ -60,9 +59,9 @@ fn pass_fork(table: &mut [u16], x: usize, mode: usize, pass: usize, out: usize)
     ensures { Forked table.old x mode pass out table.new }
 {
     if mode == Pattern::GREEDY {
-        put(table, x, PlaceKind::FORK, pass, out, 0);
+        put(table, x, PlaceKind::Fork as u16, pass, out, 0);
     } else {
-        put(table, x, PlaceKind::FORK, out, pass, 0);
+        put(table, x, PlaceKind::Fork as u16, out, pass, 0);
     }
 }
 
@@ -74,7 +73,7 @@ pub fn any_star(table: &mut [u16], base: usize, mode: usize, next: usize, first:
     let inside = base + 1 + 1;
     let end = inside + 1;
     pass_fork(table, base, mode, base + 1, next);
-    put(table, base + 1, PlaceKind::BEGIN_OPTIONAL, inside, first, 0);
-    put(table, inside, PlaceKind::RANGE, end, 0, 255);
-    put(table, end, PlaceKind::END, base, 0, 0);
+    put(table, base + 1, PlaceKind::BeginOptional as u16, inside, first, 0);
+    put(table, inside, PlaceKind::Range as u16, end, 0, 255);
+    put(table, end, PlaceKind::End as u16, base, 0, 0);
 }

@@ -100,7 +100,7 @@ fn must_passes(
     while left != 0 {
         let after = from + 1 + pass.places;
         let out = entered(left - 1 + may, after, next);
-        begun(table, pass, PlaceKind::BEGIN, from, out);
+        begun(table, pass, PlaceKind::Begin as u16, from, out);
         from = after;
         left -= 1;
     }
@@ -120,8 +120,8 @@ fn may_passes(table: &mut [u16], pass: Pass, may: usize, base: usize, next: usiz
         let end = begin + 1 + pass.places;
         let out = pass_end(pass.endless, left, from, end + 1, next);
         pass_fork(table, from, pass.mode, begin, next);
-        begun(table, pass, PlaceKind::BEGIN_OPTIONAL, begin, end);
-        put(table, end, PlaceKind::END, out, 0, 0);
+        begun(table, pass, PlaceKind::BeginOptional as u16, begin, end);
+        put(table, end, PlaceKind::End as u16, out, 0, 0);
         from = end + 1;
         left -= 1;
     }

@@ -37,7 +37,7 @@ pub fn told(matched: bool, steps: u32) -> Answer
     let count = steps as usize;
     if Machine::STEPS < count {
         return Answer::Refused {
-            number: Refusal::TOO_MANY_STEPS,
+            number: Refusal::TooManySteps as usize,
             place: 0,
         };
     }
@@ -63,13 +63,13 @@ fn finish(
 {
     if Line::BYTES < line.len() {
         return Answer::Refused {
-            number: Refusal::LINE_TOO_LONG,
+            number: Refusal::LineTooLong as usize,
             place: 0,
         };
     }
     if table.len() < Spans::NUMBERS {
         return Answer::Refused {
-            number: Refusal::TABLE_TOO_SHORT,
+            number: Refusal::TableTooShort as usize,
             place: 0,
         };
     }

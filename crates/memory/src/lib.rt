@@ -57,13 +57,13 @@ pub fn run_in(
 {
     if Line::BYTES < line.len() {
         return Answer::Refused {
-            number: Refusal::LINE_TOO_LONG,
+            number: Refusal::LineTooLong as usize,
             place: 0,
         };
     }
     if table.len() < Spans::NUMBERS {
         return Answer::Refused {
-            number: Refusal::TABLE_TOO_SHORT,
+            number: Refusal::TableTooShort as usize,
             place: 0,
         };
     }

@@ -10,21 +10,21 @@ ghost use Rattle.moves.specs.Moves.{Slots, Eats, Leads, Settling, Settles};
 use pattern::{PlaceKind, Spans};
 
 // The kinds of place. Those before SET lead on at once: a fork to two places, the others to one.
-pub const FORK: usize = PlaceKind::FORK as usize;
+pub const FORK: usize = PlaceKind::Fork as usize;
 
-const OPEN: usize = PlaceKind::OPEN as usize;
+const OPEN: usize = PlaceKind::Open as usize;
 
-const CLOSE: usize = PlaceKind::CLOSE as usize;
+const CLOSE: usize = PlaceKind::Close as usize;
 
-const BEGIN_OPTIONAL: usize = PlaceKind::BEGIN_OPTIONAL as usize;
+const BEGIN_OPTIONAL: usize = PlaceKind::BeginOptional as usize;
 
-const END: usize = PlaceKind::END as usize;
+const END: usize = PlaceKind::End as usize;
 
-pub const SET: usize = PlaceKind::SET as usize;
+pub const SET: usize = PlaceKind::Set as usize;
 
-const RANGE: usize = PlaceKind::RANGE as usize;
+const RANGE: usize = PlaceKind::Range as usize;
 
-const ACCEPT: usize = PlaceKind::ACCEPT as usize;
+const ACCEPT: usize = PlaceKind::Accept as usize;
 
 // What stands at a position of the line: whether a byte does, and which.
 #[derive(Clone, Copy)]

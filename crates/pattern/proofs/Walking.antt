@@ -14,9 +14,9 @@ use Rattle.paper.specs.Limits.{pattern_bytes, pattern_levels, pattern_groups, pa
 use Rattle.paper.specs.Refusal.{Checked, refused, accepted, ◌>>=◌, ◌>>◌, holds, broken_record, unknown_kind, too_deep, too_many_groups, repeat_wrong, set_wrong}
 use Rattle.paper.specs.Pattern.{Mode, Upper, Pattern, Members, places, depth, groups, count, places_of_all, depth_of_all, groups_of_all}
 use Rattle.paper.specs.Pattern.Pattern.{bytes, group, sequence, alternation, repeat}
-use Rattle.paper.specs.Layout.{Kind, kinds, kind_number, group_kind, repeat_kind}
+use Rattle.paper.specs.Layout.{Kind, nothing_kind, empty_kind, bytes_kind, group_kind, sequence_kind, alternation_kind, repeat_kind, kinds, kind_number}
 use Rattle.paper.specs.Check.{Walk, number_at, body_length, body_start, body_end, kind_at, kind_among, bare, byte_set, part, set_right, ranges_of, body, single, members_from, at_least_two, walk_record, repeat_numbers_right, upper_of, mode_of, repeat_head}
-use Rattle.pattern.specs.Walk.{capped, optional_passes, pass_places, places_in, depth_in, groups_in, told, told_all, leaf_of, group_of, repeat_of, several_of, of_kind, Within, AllWithin, Tells, TellsAll}
+use Rattle.pattern.specs.Walk.{capped, optional_passes, pass_places, places_in, depth_in, groups_in, told, told_all, leaf_of, group_of, repeat_of, several_of, Within, AllWithin, Tells, TellsAll}
 use Rattle.pattern.specs.declared.walk.Walked.{Walked}
 use Rattle.pattern.specs.declared.walk.Walked.TheVariants.{Refused, Record}
 use Rattle.pattern.specs.declared.walk.Several.{Several}
@@ -89,39 +89,27 @@ module _ (bs : List ℕ) (at stop before : ℕ) where
   kind_unknown zero le lt = rw (le-leb (body_end bs at) stop le, no_kind (kind_at bs at) lt)
   kind_unknown (suc left) le lt = rw (le-leb (body_end bs at) stop le, no_kind (kind_at bs at) lt)
 
-  abbrev deepest : Kind → Checked Pattern
-  deepest kind = refused too_deep at
-
-  too_deep_at : (number : ℕ) → number ≤ kind_number repeat_kind → (kind_among kinds number at >>= deepest) ≡ refused too_deep at
-  too_deep_at zero le = refl
-  too_deep_at (suc zero) le = refl
-  too_deep_at (suc (suc zero)) le = refl
-  too_deep_at (suc (suc (suc zero))) le = refl
-  too_deep_at (suc (suc (suc (suc zero)))) le = refl
-  too_deep_at (suc (suc (suc (suc (suc zero))))) le = refl
-  too_deep_at (suc (suc (suc (suc (suc (suc zero)))))) le = refl
-  too_deep_at (suc (suc (suc (suc (suc (suc (suc n))))))) le = absurd (omega arith)
+  -- a kind is found by its number
+  among : (kind : Kind) (number : ℕ) → kind_number kind ≡ number → kind_among kinds number at ≡ accepted kind
+  among nothing_kind number e = rw (sym e)
+  among empty_kind number e = rw (sym e)
+  among bytes_kind number e = rw (sym e)
+  among group_kind number e = rw (sym e)
+  among sequence_kind number e = rw (sym e)
+  among alternation_kind number e = rw (sym e)
+  among repeat_kind number e = rw (sym e)
 
   -- with no level left a known kind is 6
-  pub no_level : (levels : ℕ) → levels ≡ 0 → body_end bs at ≤ stop → kind_at bs at ≤ kind_number repeat_kind → walk_record levels bs at stop before ≡ refused too_deep at
-  no_level levels z le known = rw (z, le-leb (body_end bs at) stop le, too_deep_at (kind_at bs at) known)
+  pub no_level : (levels : ℕ) (kind : Kind) → levels ≡ 0 → body_end bs at ≤ stop → kind_number kind ≡ kind_at bs at → walk_record levels bs at stop before ≡ refused too_deep at
+  no_level levels kind z le known = rw (z, le-leb (body_end bs at) stop le, among kind (kind_at bs at) known)
 
   -- with a level left the walk goes on in the body
-  pub one_level : (levels : ℕ) → (levels ≡ 0 → ⊥) → body_end bs at ≤ stop
-      → of_kind (kind_at bs at) (walk_record (levels - 1) bs) bs at before ≡ walk_record levels bs at stop before
-  one_level zero n le = absurd (n refl)
-  one_level (suc left) n le = let e : suc left - 1 ≡ left = omega arith in rw (e, le-leb (body_end bs at) stop le)
-
--- the kind that is left where all others are ruled out
-pub last_kind : (number : ℕ) → number ≤ kind_number repeat_kind → (number ≡ 0 → ⊥) → (number ≡ 1 → ⊥) → (number ≡ 2 → ⊥) → (number ≡ 3 → ⊥) → (number ≡ 4 → ⊥) → (number ≡ 5 → ⊥) → number ≡ kind_number repeat_kind
-last_kind zero le a b c d e f = absurd (a refl)
-last_kind (suc zero) le a b c d e f = absurd (b refl)
-last_kind (suc (suc zero)) le a b c d e f = absurd (c refl)
-last_kind (suc (suc (suc zero))) le a b c d e f = absurd (d refl)
-last_kind (suc (suc (suc (suc zero)))) le a b c d e f = absurd (e refl)
-last_kind (suc (suc (suc (suc (suc zero))))) le a b c d e f = absurd (f refl)
-last_kind (suc (suc (suc (suc (suc (suc zero)))))) le a b c d e f = refl
-last_kind (suc (suc (suc (suc (suc (suc (suc n))))))) le a b c d e f = absurd (omega arith)
+  pub one_level : (levels : ℕ) (kind : Kind) → (levels ≡ 0 → ⊥) → body_end bs at ≤ stop → kind_number kind ≡ kind_at bs at
+      → body kind (walk_record (levels - 1) bs) bs at before ≡ walk_record levels bs at stop before
+  one_level zero kind n le known = absurd (n refl)
+  one_level (suc left) kind n le known =
+      let e : suc left - 1 ≡ left = omega arith in
+      rw (e, le-leb (body_end bs at) stop le, among kind (kind_at bs at) known)
 
 -- ---- records that hold no other
 

@@ -1,10 +1,9 @@
 -- What the walk's functions answer, in terms of what `paper`'s walk finds: the tree itself is never built, only its numbers.
 use Rattle.std.specs.Prelude.{ℕ, ◌+◌, ◌-◌, ◌*◌, ◌≤◌, ◌<◌, min, max, ◌≡◌, Bool, true, false, cond, List, [], ◌∷◌, ltb, length}
 use Rattle.paper.specs.Limits.{pattern_bytes, pattern_levels, pattern_groups, pattern_places}
-use Rattle.paper.specs.Refusal.{Checked, refused, accepted, ◌>>=◌, broken_record}
+use Rattle.paper.specs.Refusal.{Checked, refused, accepted, broken_record}
 use Rattle.paper.specs.Pattern.{Upper, up_to, no_end, Pattern, places, depth, groups}
-use Rattle.paper.specs.Layout.{kinds}
-use Rattle.paper.specs.Check.{Walk, body_length, body_start, body_end, kind_among, body, walk_all}
+use Rattle.paper.specs.Check.{Walk, body_length, body_start, body_end, walk_all}
 use Rattle.pattern.specs.declared.walk.Walked.{Walked}
 use Rattle.pattern.specs.declared.walk.Walked.TheVariants.{Refused, Record}
 use Rattle.pattern.specs.declared.walk.Several.{Several}
@@ -67,10 +66,6 @@ abbrev pub several_of : ℕ → ℕ → Bool → Several → Walked
 several_of at end forks (Fault number place) = Refused number place
 several_of at end forks (Members count places depth groups) =
     cond (ltb count 2) (Refused broken_record at) (Record end (capped (places + cond forks (count - 1) 0)) depth groups)
-
--- what the walk finds in the body of a record whose kind has this number
-abbrev pub of_kind : ℕ → Walk → List ℕ → ℕ → ℕ → Checked Pattern
-of_kind number walk bs at before = kind_among kinds number at >>= λ kind. body kind walk bs at before
 
 -- what the walk finds in the records that a sequence or an alternation holds
 abbrev pub members_of : Walk → List ℕ → ℕ → ℕ → Checked (List Pattern)

@@ -13,6 +13,8 @@ ghost use Rattle.paper.specs.Layout.{kinds, kind_number, mode_number};
 ghost use Rattle.paper.specs.Rows.{no_rows};
 ghost use Rattle.paper.specs.Tables.{fork_place, open_place, close_place, begin_place, begin_optional_place, end_place, set_place, range_place, stop_place, accept_place};
 ghost use Rattle.pattern.specs.Answer.{Checks};
+ghost use Rattle.pattern.specs.Kinds.{IsKind};
+ghost use Rattle.pattern.specs.Refusals.{number_of};
 
 use walk::Walked;
 
@@ -114,148 +116,166 @@ impl Spans {
     }
 }
 
-// The kinds of record.
-#[derive(Clone, Copy)]
-pub struct Kind {}
+// The kinds of record, by their numbers.
+#[derive(Clone, Copy, Debug, PartialEq, Eq)]
+pub enum Kind {
+    Nothing,
+    Empty,
+    Bytes,
+    Group,
+    Sequence,
+    Alternation,
+    Repeat,
+}
 
 impl Kind {
-    pub const NOTHING: usize = 0;
-
-    pub const EMPTY: usize = 1;
-
-    pub const BYTES: usize = 2;
-
-    pub const GROUP: usize = 3;
-
-    pub const SEQUENCE: usize = 4;
-
-    pub const ALTERNATION: usize = 5;
-
-    pub const REPEAT: usize = 6;
-
     // The numbers above are `paper`'s.
     pub fn all() -> [usize; 7]
         ensures { result ≡ map kind_number kinds }
     {
         [
-            Kind::NOTHING,
-            Kind::EMPTY,
-            Kind::BYTES,
-            Kind::GROUP,
-            Kind::SEQUENCE,
-            Kind::ALTERNATION,
-            Kind::REPEAT,
+            Kind::Nothing as usize,
+            Kind::Empty as usize,
+            Kind::Bytes as usize,
+            Kind::Group as usize,
+            Kind::Sequence as usize,
+            Kind::Alternation as usize,
+            Kind::Repeat as usize,
         ]
     }
 }
 
-// The kinds of place, as their numbers stand in a table of places. Those before SET lead on at once; the others do not.
-#[derive(Clone, Copy)]
-pub struct PlaceKind {}
+// A number that no kind of record has.
+#[derive(Clone, Copy, Debug, PartialEq, Eq)]
+pub struct UnknownKind;
+
+impl TryFrom<usize> for Kind {
+    type Error = UnknownKind;
+
+    ghost try_from_gives = { IsKind };
+
+    fn try_from(number: usize) -> Result<Self, UnknownKind> {
+        match number {
+            0 => Ok(Kind::Nothing),
+            1 => Ok(Kind::Empty),
+            2 => Ok(Kind::Bytes),
+            3 => Ok(Kind::Group),
+            4 => Ok(Kind::Sequence),
+            5 => Ok(Kind::Alternation),
+            6 => Ok(Kind::Repeat),
+            _ => Err(UnknownKind),
+        }
+    }
+}
+
+// The kinds of place, as their numbers stand in a table of places. Those before `Set` lead on at once; the others do not.
+#[derive(Clone, Copy, Debug, PartialEq, Eq)]
+pub enum PlaceKind {
+    Fork = 0,
+    Open,
+    Close,
+    Begin,
+    BeginOptional,
+    End,
+    Set,
+    Range,
+    Stop,
+    Accept,
+}
 
 impl PlaceKind {
-    pub const FORK: u16 = 0;
-
-    pub const OPEN: u16 = 1;
-
-    pub const CLOSE: u16 = 2;
-
-    pub const BEGIN: u16 = 3;
-
-    pub const BEGIN_OPTIONAL: u16 = 4;
-
-    pub const END: u16 = 5;
-
-    pub const SET: u16 = 6;
-
-    pub const RANGE: u16 = 7;
-
-    pub const STOP: u16 = 8;
-
-    pub const ACCEPT: u16 = 9;
+    // How many numbers a place has in a table: its kind, its follower, and two more.
+    pub const NUMBERS: usize = 4;
 
     // The kinds above are `paper`'s.
     pub fn all() -> [u16; 10]
         ensures { result ≡ fork_place ∷ open_place ∷ close_place ∷ begin_place ∷ begin_optional_place ∷ end_place ∷ set_place ∷ range_place ∷ stop_place ∷ accept_place ∷ [] }
     {
         [
-            PlaceKind::FORK,
-            PlaceKind::OPEN,
-            PlaceKind::CLOSE,
-            PlaceKind::BEGIN,
-            PlaceKind::BEGIN_OPTIONAL,
-            PlaceKind::END,
-            PlaceKind::SET,
-            PlaceKind::RANGE,
-            PlaceKind::STOP,
-            PlaceKind::ACCEPT,
+            PlaceKind::Fork as u16,
+            PlaceKind::Open as u16,
+            PlaceKind::Close as u16,
+            PlaceKind::Begin as u16,
+            PlaceKind::BeginOptional as u16,
+            PlaceKind::End as u16,
+            PlaceKind::Set as u16,
+            PlaceKind::Range as u16,
+            PlaceKind::Stop as u16,
+            PlaceKind::Accept as u16,
         ]
     }
-
-    // How many numbers a place has in a table: its kind, its follower, and two more.
-    pub const NUMBERS: usize = 4;
 }
 
-// The refusals by number.
-#[derive(Clone, Copy)]
-pub struct Refusal {}
+// The refusals, by their numbers.
+#[derive(Clone, Copy, Debug, PartialEq, Eq)]
+pub enum Refusal {
+    PatternTooLong = 1,
+    BrokenRecord,
+    UnknownKind,
+    SetWrong,
+    RepeatWrong,
+    TooDeep,
+    TooManyGroups,
+    TooManyPlaces,
+    TemplateWrong,
+    ReferenceTooHigh,
+    LineTooLong,
+    TableTooShort,
+    OutputTooLong,
+    TooManySteps,
+    RowWrong,
+    NoSuchPiece,
+}
 
 impl Refusal {
-    pub const PATTERN_TOO_LONG: usize = 1;
+    // Its number.
+    pub fn number(self) -> usize
+        ensures { result ≡ number_of self }
+    {
+        self as usize
+    }
 
-    pub const BROKEN_RECORD: usize = 2;
-
-    pub const UNKNOWN_KIND: usize = 3;
-
-    pub const SET_WRONG: usize = 4;
-
-    pub const REPEAT_WRONG: usize = 5;
-
-    pub const TOO_DEEP: usize = 6;
-
-    pub const TOO_MANY_GROUPS: usize = 7;
-
-    pub const TOO_MANY_PLACES: usize = 8;
-
-    pub const TEMPLATE_WRONG: usize = 9;
-
-    pub const REFERENCE_TOO_HIGH: usize = 10;
-
-    pub const LINE_TOO_LONG: usize = 11;
-
-    pub const TABLE_TOO_SHORT: usize = 12;
-
-    pub const OUTPUT_TOO_LONG: usize = 13;
-
-    pub const TOO_MANY_STEPS: usize = 14;
-
-    pub const ROW_WRONG: usize = 15;
-
-    pub const NO_SUCH_PIECE: usize = 16;
+    // This refusal, found at a place.
+    pub fn at(self, place: usize) -> Refused
+        ensures { (result.refusal ≡ self) × (result.place ≡ place) }
+    {
+        Refused {
+            refusal: self,
+            place,
+        }
+    }
 
     // The numbers above are `paper`'s.
     pub fn all() -> [usize; 16]
         ensures { result ≡ pattern_too_long ∷ broken_record ∷ unknown_kind ∷ set_wrong ∷ repeat_wrong ∷ too_deep ∷ too_many_groups ∷ too_many_places ∷ template_wrong ∷ reference_too_high ∷ line_too_long ∷ table_too_short ∷ output_too_long ∷ too_many_steps ∷ row_wrong ∷ no_such_piece ∷ [] }
     {
         [
-            Refusal::PATTERN_TOO_LONG,
-            Refusal::BROKEN_RECORD,
-            Refusal::UNKNOWN_KIND,
-            Refusal::SET_WRONG,
-            Refusal::REPEAT_WRONG,
-            Refusal::TOO_DEEP,
-            Refusal::TOO_MANY_GROUPS,
-            Refusal::TOO_MANY_PLACES,
-            Refusal::TEMPLATE_WRONG,
-            Refusal::REFERENCE_TOO_HIGH,
-            Refusal::LINE_TOO_LONG,
-            Refusal::TABLE_TOO_SHORT,
-            Refusal::OUTPUT_TOO_LONG,
-            Refusal::TOO_MANY_STEPS,
-            Refusal::ROW_WRONG,
-            Refusal::NO_SUCH_PIECE,
+            Refusal::PatternTooLong,
+            Refusal::BrokenRecord,
+            Refusal::UnknownKind,
+            Refusal::SetWrong,
+            Refusal::RepeatWrong,
+            Refusal::TooDeep,
+            Refusal::TooManyGroups,
+            Refusal::TooManyPlaces,
+            Refusal::TemplateWrong,
+            Refusal::ReferenceTooHigh,
+            Refusal::LineTooLong,
+            Refusal::TableTooShort,
+            Refusal::OutputTooLong,
+            Refusal::TooManySteps,
+            Refusal::RowWrong,
+            Refusal::NoSuchPiece,
         ]
+        .map(Refusal::number)
     }
+}
+
+// A refusal, and the place where the fault is.
+#[derive(Clone, Copy, Debug, PartialEq, Eq)]
+pub struct Refused {
+    pub refusal: Refusal,
+    pub place: usize,
 }
 
 // What checking a pattern answers.
@@ -279,7 +299,7 @@ pub fn check(pattern: &[u8]) -> Answer
     let long = pattern.len();
     if Pattern::BYTES < long {
         return Answer::Refused {
-            number: Refusal::PATTERN_TOO_LONG,
+            number: Refusal::PatternTooLong as usize,
             place: 0,
         };
     }
@@ -293,7 +313,7 @@ pub fn check(pattern: &[u8]) -> Answer
         } => {
             if end < long {
                 return Answer::Refused {
-                    number: Refusal::BROKEN_RECORD,
+                    number: Refusal::BrokenRecord as usize,
                     place: end,
                 };
             }
@@ -305,7 +325,7 @@ pub fn check(pattern: &[u8]) -> Answer
                 }
             } else {
                 Answer::Refused {
-                    number: Refusal::TOO_MANY_PLACES,
+                    number: Refusal::TooManyPlaces as usize,
                     place: 0,
                 }
             }

@@ -13,8 +13,8 @@ fn apart(s: &[u8], start: usize, end: usize) -> bool
     // the least that the next low may be
     let mut floor = 0;
     while at < end {
-        let low = records::wide(s[at]);
-        let high = records::wide(s[at + 1]);
+        let low = usize::from(s[at]);
+        let high = usize::from(s[at + 1]);
         if low < floor {
             return false;
         }

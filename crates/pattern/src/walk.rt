@@ -1,9 +1,10 @@
 // The walk over a pattern's records, outer before inner and left to right. Each function answers with the first fault or with what it counted.
 ghost use Rattle.std.specs.Prelude.{◌≡◌, ◌+◌, ◌≤◌};
 ghost use Rattle.paper.specs.Limits.{pattern_bytes, pattern_levels, repeat_count};
-ghost use Rattle.paper.specs.Layout.{kind_number, group_kind, repeat_kind};
+ghost use Rattle.paper.specs.Layout.{group_kind, repeat_kind};
 ghost use Rattle.paper.specs.Check.{body_start, body_end, single, body, walk_record};
-ghost use Rattle.pattern.specs.Walk.{leaf_of, group_of, repeat_of, several_of, of_kind, members_of, Within, AllWithin, Tells, TellsAll, Held, Room};
+ghost use Rattle.pattern.specs.Kinds.{kind_of};
+ghost use Rattle.pattern.specs.Walk.{leaf_of, group_of, repeat_of, several_of, members_of, Within, AllWithin, Tells, TellsAll, Held, Room};
 
 use crate::{Kind, Pattern, Refusal, counts, sets};
 use records::Header;
@@ -123,7 +124,7 @@ fn as_several(inner: Several, at: usize, end: usize, forks: bool) -> Walked
             groups,
         } => {
             if count < 2 {
-                Walked::Refused(Refusal::BROKEN_RECORD, at)
+                Walked::Refused(Refusal::BrokenRecord.number(), at)
             } else if forks {
                 Walked::Record {
                     end,
@@ -150,13 +151,13 @@ pub fn any_record(s: &[u8], at: usize, stop: usize, levels: usize, before: usize
     ensures { Tells stop levels (body_end s.now at) before (walk_record levels s.now at stop before) result }
 {
     match records::header_at(s, at, stop) {
-        Header::Broken => Walked::Refused(Refusal::BROKEN_RECORD, at),
-        Header::Record { kind, start, end } => {
-            if Kind::REPEAT < kind {
-                return Walked::Refused(Refusal::UNKNOWN_KIND, at);
-            }
+        None => Walked::Refused(Refusal::BrokenRecord.number(), at),
+        Some(Header { kind, start, end }) => {
+            let Ok(kind) = Kind::try_from(kind) else {
+                return Walked::Refused(Refusal::UnknownKind.number(), at);
+            };
             if levels == 0 {
-                return Walked::Refused(Refusal::TOO_DEEP, at);
+                return Walked::Refused(Refusal::TooDeep.number(), at);
             }
             body(s, kind, at, start, end, levels - 1, before)
         }
@@ -167,31 +168,31 @@ pub fn any_record(s: &[u8], at: usize, stop: usize, levels: usize, before: usize
 #[cycle(reading)]
 fn body(
     s: &[u8],
-    kind: usize,
+    kind: Kind,
     at: usize,
     start: usize,
     end: usize,
     left: usize,
     before: usize,
 ) -> Walked
-    requires { Room s.now at end left before × (start ≡ body_start at) × (kind ≤ kind_number repeat_kind) }
-    ensures { Tells end (left + 1) end before (of_kind kind (walk_record left s.now) s.now at before) result }
+    requires { Room s.now at end left before × (start ≡ body_start at) }
+    ensures { Tells end (left + 1) end before (body (kind_of kind) (walk_record left s.now) s.now at before) result }
 {
     match kind {
-        Kind::NOTHING => leaf(start == end, Refusal::BROKEN_RECORD, at, end, 1, before),
-        Kind::EMPTY => leaf(start == end, Refusal::BROKEN_RECORD, at, end, 0, before),
-        Kind::BYTES => leaf(
+        Kind::Nothing => leaf(start == end, Refusal::BrokenRecord.number(), at, end, 1, before),
+        Kind::Empty => leaf(start == end, Refusal::BrokenRecord.number(), at, end, 0, before),
+        Kind::Bytes => leaf(
             sets::right(s, start, end),
-            Refusal::SET_WRONG,
+            Refusal::SetWrong.number(),
             at,
             end,
             1,
             before,
         ),
-        Kind::GROUP => group(s, at, start, end, left, before),
-        Kind::SEQUENCE => as_several(all_inside(s, at, start, end, left, before), at, end, false),
-        Kind::ALTERNATION => as_several(all_inside(s, at, start, end, left, before), at, end, true),
-        _ => repeat(s, at, start, end, left, before),
+        Kind::Group => group(s, at, start, end, left, before),
+        Kind::Sequence => as_several(all_inside(s, at, start, end, left, before), at, end, false),
+        Kind::Alternation => as_several(all_inside(s, at, start, end, left, before), at, end, true),
+        Kind::Repeat => repeat(s, at, start, end, left, before),
     }
 }
 
@@ -204,7 +205,7 @@ fn group(s: &[u8], at: usize, start: usize, end: usize, left: usize, before: usi
     if before < Pattern::GROUPS {
         as_group(one_inside(s, at, start, end, left, before + 1))
     } else {
-        Walked::Refused(Refusal::TOO_MANY_GROUPS, at)
+        Walked::Refused(Refusal::TooManyGroups.number(), at)
     }
 }
 
@@ -215,7 +216,7 @@ fn repeat(s: &[u8], at: usize, start: usize, end: usize, left: usize, before: us
     ensures { Tells end (left + 1) end before (body repeat_kind (walk_record left s.now) s.now at before) result }
 {
     if end - start < REPEAT_HEAD {
-        return Walked::Refused(Refusal::BROKEN_RECORD, at);
+        return Walked::Refused(Refusal::BrokenRecord.number(), at);
     }
     let least = records::number_at(s, start);
     let most = records::number_at(s, start + 2);
@@ -227,7 +228,7 @@ fn repeat(s: &[u8], at: usize, start: usize, end: usize, left: usize, before: us
             counts::optional(least, most),
         )
     } else {
-        Walked::Refused(Refusal::REPEAT_WRONG, at)
+        Walked::Refused(Refusal::RepeatWrong.number(), at)
     }
 }
 
@@ -253,7 +254,7 @@ fn one_inside(
             groups,
         } => {
             if after < end {
-                Walked::Refused(Refusal::BROKEN_RECORD, holder)
+                Walked::Refused(Refusal::BrokenRecord.number(), holder)
             } else {
                 Walked::Record {
                     end,

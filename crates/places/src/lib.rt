@@ -2,6 +2,7 @@
 // the places of a record ahead where another follows it.
 #![tactic(auto)]
 
+mod kinds;
 mod sums;
 mod walk;
 
@@ -27,7 +28,7 @@ pub fn build_match(pattern: &[u8], table: &mut [u16], places: usize, groups: usi
         groups,
     };
     one(pattern, table, part, 0, places);
-    put(table, places, PlaceKind::ACCEPT, 0, 0, 0);
+    put(table, places, PlaceKind::Accept as u16, 0, 0, 0);
     places + 1
 }
 
@@ -47,9 +48,9 @@ pub fn build_search(pattern: &[u8], table: &mut [u16], places: usize, groups: us
         places,
         groups,
     };
-    headed(pattern, table, part, PlaceKind::OPEN, 0, 0, 4, close);
-    put(table, close, PlaceKind::CLOSE, second, 0, 0);
+    headed(pattern, table, part, PlaceKind::Open as u16, 0, 0, 4, close);
+    put(table, close, PlaceKind::Close as u16, second, 0, 0);
     any_star(table, second, Pattern::GREEDY, second + 4, groups + 1);
-    put(table, second + 4, PlaceKind::ACCEPT, 0, 0, 0);
+    put(table, second + 4, PlaceKind::Accept as u16, 0, 0, 0);
     second + 5
 }

@@ -4,7 +4,8 @@ ghost use Rattle.paper.specs.Limits.{pattern_bytes, row_count};
 ghost use Rattle.paper.specs.Check.{body_end};
 ghost use Rattle.places.specs.Sums.{most_own, inside_start, own_places, OwnPlaces, own_groups, Counting, Counted};
 
-use pattern::{Kind, counts};
+use crate::kinds::Kind;
+use pattern::counts;
 use records::number_at;
 
 // What records that stand one after another add up to. Places are counted up to the pattern's limit, as `pattern` counts them.

@@ -9,7 +9,8 @@ ghost use Rattle.places.specs.Walk.{One, OneLaid, HeadLaid, Several, SeveralLaid
 use crate::sums::alone;
 use laying::repeats::Pass;
 use laying::{entered, put, repeats, set_place};
-use pattern::{Kind, Pattern, PlaceKind, counts};
+use crate::kinds::Kind;
+use pattern::{Pattern, PlaceKind, counts};
 use records::number_at;
 
 // Records that are laid: where they stand and end, the number of their first group, and how many places and groups they have.
@@ -109,7 +110,7 @@ pub fn one(pattern: &[u8], table: &mut [u16], part: Part, base: usize, next: usi
     let kind = number_at(pattern, at + 2);
     let start = at + 4;
     if places == 0 {} else if kind == Kind::NOTHING {
-        put(table, base, PlaceKind::STOP, 0, 0, 0);
+        put(table, base, PlaceKind::Stop as u16, 0, 0, 0);
     } else if kind == Kind::BYTES {
         set_place(pattern, table, start, stop, base, next);
     } else if kind == Kind::GROUP {
@@ -125,13 +126,13 @@ pub fn one(pattern: &[u8], table: &mut [u16], part: Part, base: usize, next: usi
             pattern,
             table,
             inner,
-            PlaceKind::OPEN,
+            PlaceKind::Open as u16,
             first,
             0,
             base,
             close,
         );
-        put(table, close, PlaceKind::CLOSE, next, first, 0);
+        put(table, close, PlaceKind::Close as u16, next, first, 0);
     } else if kind == Kind::REPEAT {
         repeated(pattern, table, part, base, next);
     } else {
@@ -183,7 +184,7 @@ fn forked(pattern: &[u8], table: &mut [u16], part: Part, base: usize, next: usiz
         put(
             table,
             from,
-            PlaceKind::FORK,
+            PlaceKind::Fork as u16,
             preferred,
             entered(rest, second, next),
             0,

@@ -49,7 +49,7 @@ fn replace_in(
     );
     if buffer.len() < measured.length {
         return Replaced::Refused {
-            number: Refusal::OUTPUT_TOO_LONG,
+            number: Refusal::OutputTooLong as usize,
             place: 0,
         };
     }
@@ -163,17 +163,17 @@ fn replace_built(
 {
     match template::references_within(template, count) {
         References::Wrong(place) => Replaced::Refused {
-            number: Refusal::TEMPLATE_WRONG,
+            number: Refusal::TemplateWrong as usize,
             place,
         },
         References::TooHigh(place) => Replaced::Refused {
-            number: Refusal::REFERENCE_TOO_HIGH,
+            number: Refusal::ReferenceTooHigh as usize,
             place,
         },
         References::Within => {
             if Line::BYTES < line.len() {
                 return Replaced::Refused {
-                    number: Refusal::LINE_TOO_LONG,
+                    number: Refusal::LineTooLong as usize,
                     place: 0,
                 };
             }

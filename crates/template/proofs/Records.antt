@@ -9,12 +9,12 @@ use mathlib.Core.List.{List, [], ◌∷◌}
 use lib.Dec.{leb, ltb}
 use lib.ListN.{length, drop}
 use borrow.Author.Tests.{le-leb, lt-leb, eq-eqb, ne_eqb, ltb-true, ltb-false, leb-true}
+use Rattle.std.specs.Prelude.{Some}
 use Rattle.paper.specs.Limits.{template_bytes, pattern_groups}
 use Rattle.paper.specs.Refusal.{Checked, refused, accepted, ◌>>=◌, ◌>>◌, holds, template_wrong}
 use Rattle.paper.specs.Check.{number_at, body_length, body_end, kind_at}
 use Rattle.paper.specs.Template.{Piece, literal, reference, literal_kind, reference_kind, literal_at, reference_at, piece_of_kind, piece_at, pieces_from, template_of, within}
 use Rattle.records.specs.Header.{Shows as Headed}
-use Rattle.records.specs.declared.Header.{Header}
 use Rattle.template.specs.declared.Record.{Record}
 use Rattle.template.specs.Record.{Shows, From, Numbered, record_count, references_call}
 
@@ -45,7 +45,7 @@ module _ (bs : List ℕ) (at : ℕ) where
       look false test is = never is
 
 -- what a header says decides the record
-module _ (bs : List ℕ) (at kind start end : ℕ) (header : Headed bs at (length bs) (Header.Record kind start end)) where
+module _ (bs : List ℕ) (at kind start end : ℕ) (header : Headed bs at (length bs) (Some (record { kind = kind; start = start; end = end }))) where
   by_kind : (number : ℕ) → kind ≡ number → piece_at bs at ≡ piece_of_kind bs at number
   by_kind number k = of_kind_law bs at header.0 kind header.1 ∙ ap (piece_of_kind bs at) k
 

@@ -57,7 +57,7 @@ pub fn record_at(template: &[u8], at: usize) -> Record
     requires { at ≤ length template.now }
     ensures { Shows template.now at result }
 {
-    let Header::Record { kind, start, end } = header_at(template, at, template.len()) else {
+    let Some(Header { kind, start, end }) = header_at(template, at, template.len()) else {
         return Record::Wrong;
     };
     if kind == LITERAL {
@@ -170,7 +170,7 @@ fn row_part(size: usize, table: &[u16], row: usize) -> Answer
         }
     }
     Answer::Refused {
-        number: Refusal::ROW_WRONG,
+        number: Refusal::RowWrong as usize,
         place: 0,
     }
 }
@@ -183,7 +183,7 @@ fn record_part(template: &[u8], size: usize, table: &[u16], number: usize) -> An
     let at = place_of(template, number);
     match record_at(template, at) {
         Record::Wrong => Answer::Refused {
-            number: Refusal::TEMPLATE_WRONG,
+            number: Refusal::TemplateWrong as usize,
             place: at,
         },
         Record::Literal { start, end } => Answer::Template { start, end },
@@ -197,25 +197,25 @@ pub fn piece(template: &[u8], line: &[u8], table: &[u16], number: usize) -> Answ
 {
     match check_template(template) {
         Counted::Wrong(place) => Answer::Refused {
-            number: Refusal::TEMPLATE_WRONG,
+            number: Refusal::TemplateWrong as usize,
             place,
         },
         Counted::Records(count) => {
             if Line::BYTES < line.len() {
                 return Answer::Refused {
-                    number: Refusal::LINE_TOO_LONG,
+                    number: Refusal::LineTooLong as usize,
                     place: 0,
                 };
             }
             if table.len() < Spans::NUMBERS {
                 return Answer::Refused {
-                    number: Refusal::TABLE_TOO_SHORT,
+                    number: Refusal::TableTooShort as usize,
                     place: 0,
                 };
             }
             if count <= number {
                 return Answer::Refused {
-                    number: Refusal::NO_SUCH_PIECE,
+                    number: Refusal::NoSuchPiece as usize,
                     place: 0,
                 };
             }

@@ -12,7 +12,7 @@ pub returns-then-high-low : goal.returns-then-high-low
 returns-then-high-low c = reversed c.loop-at.invariant c.requires.2 c.loop-at-test.true (omega arith) (omega arith)
 
 pub loop-at-preserved : goal.loop-at-preserved
-loop-at-preserved c = rw c.wide-high.ensures.0 (one_pair c.loop-at.invariant c.requires.2 c.loop-at-test.true (omega arith) (omega arith))
+loop-at-preserved c = rw c.from-high.ensures (one_pair c.loop-at.invariant c.requires.2 c.loop-at-test.true (omega arith) (omega arith))
 
 pub returns : goal.returns
 returns c = all_apart c.loop-at.invariant c.requires.2 c.loop-at-test.false

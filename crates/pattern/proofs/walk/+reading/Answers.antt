@@ -1,6 +1,7 @@
 -- Each answer cites the law for its way out.
 use Rattle.std.proofs.Common.{true, false, sym, ◌∙◌, arith}
 use Rattle.paper.specs.Check.{walk_record}
+use Rattle.pattern.specs.Kinds.{kind_of}
 use Rattle.pattern.proofs.Walking.{one_level, passed_on, repeat_tells, several_tells}
 use Rattle.pattern.proofs.Turning.{begun, one_more}
 use Rattle.pattern.proofs.walk.+reading.Goals as goal
@@ -8,14 +9,15 @@ use Rattle.pattern.proofs.walk.+reading.Goals as goal
 pub any_record-returns-else-levels-eq0 : goal.any_record-returns-else-levels-eq0
 any_record-returns-else-levels-eq0 t c =
     let s = c.args.s.now in
-    let shown = c.in-Record.ensures in
-    passed_on (omega arith) (omega arith) shown.3 (rw shown.1 (one_level s c.args.at c.args.stop c.args.before c.args.levels c.if-levels-eq0.false shown.0)) c.body.ensures
+    let shown = c.in-Some.ensures in
+    let known = c.in-Ok.ensures ∙ shown.1 in
+    passed_on (omega arith) (omega arith) shown.3 (one_level s c.args.at c.args.stop c.args.before c.args.levels (kind_of c.in-Ok.kind) c.if-levels-eq0.false shown.0 known) c.body.ensures
 
-pub body-returns-in-4 : goal.body-returns-in-4
-body-returns-in-4 t c = rw (c.in-4.is, c.as_several.ensures) (several_tells c.args.at false c.all_inside.ensures)
+pub body-returns-in-Sequence : goal.body-returns-in-Sequence
+body-returns-in-Sequence t c = rw (c.in-Sequence.is, c.as_several.ensures) (several_tells c.args.at false c.all_inside.ensures)
 
-pub body-returns-in-5 : goal.body-returns-in-5
-body-returns-in-5 t c = rw (c.in-5.is, c.as_several-in-5.ensures) (several_tells c.args.at true c.all_inside-in-5.ensures)
+pub body-returns-in-Alternation : goal.body-returns-in-Alternation
+body-returns-in-Alternation t c = rw (c.in-Alternation.is, c.as_several-in-Alternation.ensures) (several_tells c.args.at true c.all_inside-in-Alternation.ensures)
 
 pub repeat-returns-then-right : goal.repeat-returns-then-right
 repeat-returns-then-right t c =
