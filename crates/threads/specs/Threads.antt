@@ -4,7 +4,7 @@ use Rattle.std.proofs.Math.Seq.{paste}
 use Rattle.paper.specs.Limits.{table_numbers}
 use Rattle.paper.specs.Rows.{Rows}
 use Rattle.paper.specs.Machine.{Thread, at}
-use Rattle.threads.specs.declared.Branch.{Branch}
+use Rattle.threads.specs.declared.Thread as declared
 
 -- how many numbers a thread has in a list
 abbrev pub thread_numbers : ℕ
@@ -56,10 +56,10 @@ pub record Carries (taken list : List ℕ) (next stamp : ℕ) (rows : Rows) (cou
   pub counted : count' ≡ cond (eqb (get_or taken next 0) stamp) count (count + 1)
 
 -- the branch on top taken from a memory, if one waits
-abbrev pub Pops : List ℕ → ℕ → ℕ → Option Branch → Type 0
+abbrev pub Pops : List ℕ → ℕ → ℕ → Option declared.Thread → Type 0
 Pops pending count count' None = (count ≡ 0) × (count' ≡ count)
-Pops pending count count' (Some b) =
+Pops pending count count' (Some t) =
     (count ≡ count' + 1)
-    × (b.floor ≡ get_or pending (branch_numbers * count') 0)
-    × (b.place ≡ get_or pending (branch_numbers * count' + 1) 0)
-    × (b.rows ≡ rows_from pending (branch_numbers * count' + 1))
+    × (t.floor ≡ get_or pending (branch_numbers * count') 0)
+    × (t.place ≡ get_or pending (branch_numbers * count' + 1) 0)
+    × (t.rows ≡ rows_from pending (branch_numbers * count' + 1))

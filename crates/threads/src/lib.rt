@@ -5,7 +5,7 @@
 ghost use Rattle.std.specs.Prelude.{◌≡◌, not, ◌+◌, ◌*◌, ◌≤◌, ◌<◌, ◌^◌, eqb, length, get_or, set};
 ghost use Rattle.paper.specs.Limits.{row_count};
 ghost use Rattle.paper.specs.Rows.{clear};
-ghost use Rattle.threads.specs.Threads.{thread_numbers, branch_numbers, stored, waited, rows_from, Carries, Pops};
+ghost use Rattle.threads.specs.Threads.{thread_numbers, branch_numbers, place_in, rows_in, stored, waited, rows_from, Carries, Pops};
 
 use pattern::Spans;
 
@@ -65,6 +65,19 @@ pub fn load(list: &[u16], offset: usize) -> [u16; Spans::NUMBERS]
     rows
 }
 
+// The thread at an index of a list, on level 0.
+pub fn thread_at(list: &[u16], index: usize) -> Thread
+    requires { thread_numbers * index + thread_numbers ≤ length list.now }
+    ensures { (result.place ≡ place_in list.now index) × (result.floor ≡ 0) × (result.rows ≡ rows_in list.now index) }
+{
+    let b = THREAD * index;
+    Thread {
+        place: usize::from(list[b]),
+        floor: 0,
+        rows: load(list, b),
+    }
+}
+
 // Stamps an entry of a table; whether it had another stamp.
 pub fn mark(table: &mut [u16], index: usize, stamp: u16) -> bool
     requires { index < length table.old }
@@ -84,10 +97,12 @@ pub struct Carried<'a> {
 }
 
 impl Carried<'_> {
+    ghost use Rattle.threads.specs.Memory.{SameMemory};
+
     // Carries a thread to a follower that none is carried to yet.
     pub fn carry(&mut self, next: usize, stamp: u16, rows: [u16; Spans::NUMBERS])
         requires { (next < length self.old.taken.now) × (next < 2 ^ 16) × (thread_numbers * self.old.count + thread_numbers ≤ length self.old.list.now) }
-        ensures same_tables { (self.new.taken.ghost_name ≡ self.old.taken.ghost_name) × (self.new.list.ghost_name ≡ self.old.list.ghost_name) }
+        ensures same_memory { SameMemory self.old self.new }
         ensures carries { Carries self.old.taken.now self.old.list.now next stamp rows self.old.count self.new.taken.now self.new.list.now self.new.count }
     {
         if mark(self.taken, next, stamp) {
@@ -99,22 +114,22 @@ impl Carried<'_> {
     // Puts the winner behind the carried threads, uncounted.
     pub fn win(&mut self, rows: [u16; Spans::NUMBERS])
         requires { thread_numbers * self.old.count + thread_numbers ≤ length self.old.list.now }
-        ensures same_tables { (self.new.taken.ghost_name ≡ self.old.taken.ghost_name) × (self.new.list.ghost_name ≡ self.old.list.ghost_name) }
+        ensures same_memory { SameMemory self.old self.new }
         ensures wins { (self.new.taken.now ≡ self.old.taken.now) × (self.new.count ≡ self.old.count) × (self.new.list.now ≡ stored self.old.list.now (thread_numbers * self.old.count) 0 rows) }
     {
         store(self.list, THREAD * self.count, 0, rows);
     }
 }
 
-// A branch of a fork: the first entry of its level, its place and its rows.
+// A thread, with the first entry of its level in place of the level.
 #[derive(Clone, Copy)]
-pub struct Branch {
-    pub floor: usize,
+pub struct Thread {
     pub place: usize,
+    pub floor: usize,
     pub rows: [u16; Spans::NUMBERS],
 }
 
-// The branches that wait, the last on top.
+// The branches of forks that wait, in lent memory, the last on top.
 #[derive(Drop)]
 pub struct Waiting<'a> {
     pub numbers: &'a mut [u16],
@@ -123,7 +138,7 @@ pub struct Waiting<'a> {
 
 impl Waiting<'_> {
     // Puts a branch on top of those that wait.
-    pub fn push(&mut self, branch: Branch)
+    pub fn push(&mut self, branch: Thread)
         requires { (branch_numbers * self.old.count + branch_numbers ≤ length self.old.numbers.now) × (branch.floor < 2 ^ 16) × (branch.place < 2 ^ 16) }
         ensures same_memory { self.new.numbers.ghost_name ≡ self.old.numbers.ghost_name }
         ensures pushed { (self.new.numbers.now ≡ waited self.old.numbers.now self.old.count branch.floor branch.place branch.rows) × (self.new.count ≡ self.old.count + 1) }
@@ -135,7 +150,7 @@ impl Waiting<'_> {
     }
 
     // Takes the branch on top, if one waits.
-    pub fn pop(&mut self) -> Option<Branch>
+    pub fn pop(&mut self) -> Option<Thread>
         requires { branch_numbers * self.old.count ≤ length self.old.numbers.now }
         ensures same_memory { (self.new.numbers.ghost_name ≡ self.old.numbers.ghost_name) × (self.new.numbers.now ≡ self.old.numbers.now) }
         ensures popped { Pops self.old.numbers.now self.old.count self.new.count result }
@@ -146,9 +161,9 @@ impl Waiting<'_> {
         self.count -= 1;
         let b = BRANCH * self.count;
         let numbers = &mut *self.numbers;
-        Some(Branch {
-            floor: usize::from(numbers[b]),
+        Some(Thread {
             place: usize::from(numbers[b + 1]),
+            floor: usize::from(numbers[b]),
             rows: load(numbers, b + 1),
         })
     }
