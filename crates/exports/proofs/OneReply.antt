@@ -14,7 +14,9 @@ use Rattle.paper.specs.Pattern.{Pattern, all_places, depth, groups}
 use Rattle.paper.specs.Check.{pattern_of}
 use Rattle.paper.specs.Machine.{places_of}
 use Rattle.paper.specs.Tables.{decode}
-use Rattle.pattern.specs.declared.Answer as checking
+use Rattle.std.specs.Prelude.{Result}
+use Rattle.pattern.specs.declared.Numbers.{Numbers}
+use Rattle.pattern.specs.declared.Refused as checking
 use Rattle.pattern.specs.Answer.{answer_of}
 use Rattle.pattern.proofs.Answering.{one_answer}
 use Rattle.matcher.specs.declared.Answer as matching
@@ -74,7 +76,7 @@ pub one_check_reply : {pattern out : List ℕ} {status status' : ℕ} {after aft
     → (status ≡ status') × (after ≡ after')
 one_check_reply {out = out} p q =
     by_length (length out) 3 (λ h. untouched_one (p.short h) (q.short h))
-    (λ h. let t = p.told h in let u = q.told h in told_one (λ (r : checking.Answer). check_numbers (answer_of r)) (one_answer t.1 u.1) t.2 u.2)
+    (λ h. let t = p.told h in let u = q.told h in told_one (λ (r : Result Numbers checking.Refused). check_numbers (answer_of r)) (one_answer t.1 u.1) t.2 u.2)
 
 pub one_match_reply : {pattern line table table' table'' out : List ℕ} {status status' : ℕ} {after after' : List ℕ}
     → MatchReplies pattern line table table' out status after → MatchReplies pattern line table table'' out status' after'

@@ -1,7 +1,8 @@
 -- The promises of the exported calls: those of the calls under them, told by a status and in `out`; and where lent memory is too short, nothing is touched.
-use Rattle.std.specs.Prelude.{ℕ, ◌≤◌, ◌<◌, ◌≡◌, Bool, List, length}
+use Rattle.std.specs.Prelude.{ℕ, ◌≤◌, ◌<◌, ◌≡◌, Bool, List, Result, length}
 use Rattle.paper.specs.PieceCalls.{piece_call}
-use Rattle.pattern.specs.declared.Answer as checking
+use Rattle.pattern.specs.declared.Numbers.{Numbers}
+use Rattle.pattern.specs.declared.Refused as checking
 use Rattle.pattern.specs.Answer.{answer_of, Checks}
 use Rattle.matcher.specs.declared.Answer as matching
 use Rattle.machine.specs.declared.Built.{Built}
@@ -24,7 +25,7 @@ Untouched out status after = (status ≡ too_short) × (after ≡ out)
 -- `toj_check`: an answer that checking promises, told
 pub record CheckReplies (pattern out : List ℕ) (status : ℕ) (after : List ℕ) : Type 0 where
   pub short : length out < 3 → Untouched out status after
-  pub told : 3 ≤ length out → (r : checking.Answer) × Checks pattern r × Tells (check_numbers (answer_of r)) out status after
+  pub told : 3 ≤ length out → (r : Result Numbers checking.Refused) × Checks pattern r × Tells (check_numbers (answer_of r)) out status after
 
 -- `toj_match`: an answer that a whole match promises, with the table afterwards, told
 pub record MatchReplies (pattern line table table' out : List ℕ) (status : ℕ) (after : List ℕ) : Type 0 where

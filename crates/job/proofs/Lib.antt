@@ -1,2 +1,2 @@
--- Laws on what comes next in a job.
+-- A law on what comes next in a job.
 pub mod Comes

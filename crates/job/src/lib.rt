@@ -6,8 +6,7 @@ ghost use Rattle.printer.specs.Gathered.{Gathered};
 ghost use Rattle.job.specs.Comes.{comes, pattern_record, line_record, body_bytes};
 
 use pattern::Spans;
-use records::Header;
-use std::io::Stdout;
+use printer::Printer;
 
 // The kinds of a job's records, and the greatest length of a body.
 #[derive(Clone, Copy)]
@@ -28,101 +27,80 @@ impl Job {
     }
 }
 
-// What comes next in the job.
-#[derive(Clone, Copy)]
-pub enum Next {
-    // nothing: the job is at its end
-    End,
-    // something that is no whole record of the kind
-    Broken,
-    // a record, whose body stands there
-    Body { start: usize, end: usize },
+// Where the body of a record stands.
+#[derive(Clone, Copy, Debug, PartialEq, Eq)]
+pub struct Body {
+    pub start: usize,
+    pub end: usize,
 }
 
-// The record at an offset, if it is whole and of the kind.
-pub fn next_record(bytes: &[u8], at: usize, stop: usize, kind: usize) -> Next
+// What comes is no whole record of the kind.
+#[derive(Clone, Copy, Debug, PartialEq, Eq)]
+pub struct Broken {}
+
+// The body of the record at an offset, which has to be whole and of the kind; at the job's end there is none.
+pub fn next_record(
+    bytes: &[u8],
+    at: usize,
+    stop: usize,
+    kind: usize,
+) -> Result<Option<Body>, Broken>
     requires { (at ≤ stop) × (stop ≤ length bytes.now) }
     ensures { result ≡ comes bytes.now at stop kind }
 {
     if at == stop {
-        return Next::End;
+        return Ok(None);
     }
-    match records::header_at(bytes, at, stop) {
-        None => Next::Broken,
-        Some(Header {
-            kind: found,
-            start,
-            end,
-        }) => {
-            if found == kind {
-                if end - start <= Job::BODY {
-                    return Next::Body { start, end };
-                }
-            }
-            Next::Broken
-        }
+    let header = records::header_at(bytes, at, stop).ok_or(Broken {})?;
+    if header.kind != kind || Job::BODY < header.end - header.start {
+        return Err(Broken {});
     }
+    Ok(Some(Body {
+        start: header.start,
+        end: header.end,
+    }))
 }
 
 // The pattern's numbers.
-pub fn print_numbers(
-    to: Stdout,
-    out: &mut [u8],
-    at: usize,
-    places: usize,
-    depth: usize,
-    groups: usize,
-    coded: bool,
-) -> usize
-    ensures { Gathered at result }
+pub fn print_numbers(p: &mut Printer, places: usize, depth: usize, groups: usize)
+    ensures { Gathered p.old p.new }
 {
-    let mut n = printer::bytes(to, out, at, b"places ", coded);
-    n = printer::decimal(to, out, n, places as u64, coded);
-    n = printer::bytes(to, out, n, b" depth ", coded);
-    n = printer::decimal(to, out, n, depth as u64, coded);
-    n = printer::bytes(to, out, n, b" groups ", coded);
-    n = printer::decimal(to, out, n, groups as u64, coded);
-    printer::bytes(to, out, n, b"\n", coded)
+    p.bytes(b"places ");
+    p.decimal(places as u64);
+    p.bytes(b" depth ");
+    p.decimal(depth as u64);
+    p.bytes(b" groups ");
+    p.decimal(groups as u64);
+    p.bytes(b"\n");
 }
 
 // The refusal of the pattern.
-pub fn print_refused(
-    to: Stdout,
-    out: &mut [u8],
-    at: usize,
-    number: usize,
-    place: usize,
-    coded: bool,
-) -> usize
-    ensures { Gathered at result }
+pub fn print_refused(p: &mut Printer, number: usize, place: usize)
+    ensures { Gathered p.old p.new }
 {
-    let n = printer::refusal(to, out, at, number, place, coded);
-    printer::bytes(to, out, n, b"\n", coded)
+    p.refusal(number, place);
+    p.bytes(b"\n");
 }
 
 // What is printed where the job is not as described.
-pub fn print_broken(to: Stdout, out: &mut [u8], at: usize, coded: bool) -> usize
-    ensures { Gathered at result }
+pub fn print_broken(p: &mut Printer)
+    ensures { Gathered p.old p.new }
 {
-    printer::bytes(to, out, at, b"job broken\n", coded)
+    p.bytes(b"job broken\n");
 }
 
-// A line's number and what its match found.
+// A line's number and what its match found: the rows, if there is a match, and the steps.
 pub fn print_line(
-    to: Stdout,
-    out: &mut [u8],
-    at: usize,
+    p: &mut Printer,
     number: u64,
-    matched: bool,
-    steps: u64,
-    rows: [u16; Spans::NUMBERS],
+    rows: Option<[u16; Spans::NUMBERS]>,
+    steps: u32,
     groups: usize,
-    coded: bool,
-) -> usize
-    ensures { Gathered at result }
+)
+    ensures { Gathered p.old p.new }
 {
-    let mut n = printer::decimal(to, out, at, number, coded);
-    n = printer::bytes(to, out, n, b" ", coded);
-    n = printer::outcome(to, out, n, matched, steps, rows, groups, coded);
-    printer::bytes(to, out, n, b"\n", coded)
+    p.decimal(number);
+    p.bytes(b" ");
+    p.outcome(rows, steps, groups);
+    p.bytes(b"\n");
 }

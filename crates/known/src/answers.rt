@@ -1,104 +1,48 @@
-// The answers of the calls, one function each: the call is made and what it answers is printed, to the end of the line.
+// The answers of the calls: the call is made and what it answers is printed, to the end of the line.
+ghost use Rattle.std.specs.Prelude.{◌≤◌};
 ghost use Rattle.printer.specs.Gathered.{Gathered};
 
 use crate::words;
 use pattern::Spans;
-use std::io::Stdout;
+use printer::Printer;
+use replacer::Replaced;
 
-// A whole match, in a table of just the numbers that it asks for; `groups` rows behind row 0 are printed.
-pub fn matched(
-    to: Stdout,
-    out: &mut [u8],
-    at: usize,
-    pattern: &[u8],
-    line: &[u8],
-    groups: usize,
-) -> usize
-    ensures { Gathered at result }
+// The longest output of a replace-all.
+const OUTPUT: usize = 24;
+
+// A whole match or a search, in a table of just the numbers that it asks for; `groups` rows behind row 0 are printed.
+pub fn found(p: &mut Printer, searches: bool, pattern: &[u8], line: &[u8], groups: usize)
+    ensures { Gathered p.old p.new }
 {
     let mut table = Spans::absent_table();
-    let answer = matcher::whole_match(pattern, line, &mut table);
-    let n = printer::found(to, out, at, answer, table, groups, false);
-    words::end_line(to, out, n)
-}
-
-// A search, likewise.
-pub fn searched(
-    to: Stdout,
-    out: &mut [u8],
-    at: usize,
-    pattern: &[u8],
-    line: &[u8],
-    groups: usize,
-) -> usize
-    ensures { Gathered at result }
-{
-    let mut table = Spans::absent_table();
-    let answer = matcher::search(pattern, line, &mut table);
-    let n = printer::found(to, out, at, answer, table, groups, false);
-    words::end_line(to, out, n)
-}
-
-// The output that replace-all left at the front of a buffer.
-fn output(to: Stdout, out: &mut [u8], at: usize, buffer: &[u8], long: usize) -> usize
-    ensures { Gathered at result }
-{
-    if long <= buffer.len() {
-        words::quoted(to, out, at, &buffer[0..long])
+    let answer = if searches {
+        matcher::search(pattern, line, &mut table)
     } else {
-        at
-    }
+        matcher::whole_match(pattern, line, &mut table)
+    };
+    p.found(answer, table, groups);
+    words::end_line(p);
 }
 
-// The numbers that replace-all answers.
-fn counted(
-    to: Stdout,
-    out: &mut [u8],
-    at: usize,
-    length: usize,
-    replacements: usize,
-    steps: u64,
-) -> usize
-    ensures { Gathered at result }
+// Replace-all: its output and the numbers that it answers.
+pub fn replaced(p: &mut Printer, pattern: &[u8], template: &[u8], line: &[u8])
+    ensures { Gathered p.old p.new }
 {
-    let mut n = words::labelled(to, out, at, b" length ", length);
-    n = words::labelled(to, out, n, b" replacements ", replacements);
-    n = printer::bytes(to, out, n, b" steps ", false);
-    n = printer::decimal(to, out, n, steps, false);
-    words::end_line(to, out, n)
-}
-
-// What replace-all answers, with its output.
-fn done(to: Stdout, out: &mut [u8], at: usize, answer: replacer::Replaced, buffer: &[u8]) -> usize
-    ensures { Gathered at result }
-{
-    match answer {
-        replacer::Replaced::Refused { number, place } => job::print_refused(
-            to, out, at, number, place, false,
-        ),
-        replacer::Replaced::Done {
+    let mut buffer = [0; OUTPUT];
+    match replacer::replace_all(pattern, template, line, &mut buffer) {
+        Replaced::Refused { number, place } => job::print_refused(p, number, place),
+        Replaced::Done {
             length,
             replacements,
             steps,
         } => {
-            let n = output(to, out, at, buffer, length);
-            counted(to, out, n, length, replacements, steps)
+            if let Some(output) = buffer.get(..length) {
+                words::quoted(p, output);
+            }
+            words::labelled(p, b" length ", length as u64);
+            words::labelled(p, b" replacements ", replacements as u64);
+            words::labelled(p, b" steps ", steps);
+            words::end_line(p);
         }
     }
-}
-
-// Replace-all into a buffer.
-pub fn replaced(
-    to: Stdout,
-    out: &mut [u8],
-    at: usize,
-    pattern: &[u8],
-    template: &[u8],
-    line: &[u8],
-    buffer: &mut [u8],
-) -> usize
-    ensures { Gathered at result }
-{
-    let answer = replacer::replace_all(pattern, template, line, buffer);
-    done(to, out, at, answer, buffer)
 }

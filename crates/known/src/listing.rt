@@ -1,229 +1,161 @@
 // A pattern's places in words, one a line, so that a person can follow how a pattern runs.
-ghost use Rattle.std.specs.Prelude.{◌≤◌, ◌≡◌};
+ghost use Rattle.std.specs.Prelude.{◌≤◌};
 ghost use Rattle.printer.specs.Gathered.{Gathered};
 
 use crate::words::labelled;
 use pattern::PlaceKind;
-use std::io::Stdout;
+use printer::Printer;
 
-// A number of a table as an index.
-fn wide(x: u16) -> usize
-    ensures { result ≡ x }
-{
-    x as usize
+const FORK: u16 = PlaceKind::Fork as u16;
+
+const OPEN: u16 = PlaceKind::Open as u16;
+
+const CLOSE: u16 = PlaceKind::Close as u16;
+
+const BEGIN: u16 = PlaceKind::Begin as u16;
+
+const BEGIN_OPTIONAL: u16 = PlaceKind::BeginOptional as u16;
+
+const END: u16 = PlaceKind::End as u16;
+
+const SET: u16 = PlaceKind::Set as u16;
+
+const STOP: u16 = PlaceKind::Stop as u16;
+
+const ACCEPT: u16 = PlaceKind::Accept as u16;
+
+// The four numbers of a place.
+#[derive(Clone, Copy)]
+struct Place {
+    kind: u16,
+    next: u16,
+    a: u16,
+    many: u16,
 }
 
 // A byte: as its character in quotes, or in digits where it has none that can be seen.
-fn letter(to: Stdout, out: &mut [u8], at: usize, b: u8) -> usize
-    ensures { Gathered at result }
+fn letter(p: &mut Printer, b: u8)
+    ensures { Gathered p.old p.new }
 {
-    if b < b'!' {
-        return digits(to, out, at, b);
+    if b.is_ascii_graphic() {
+        p.bytes(&[b'\'', b, b'\'']);
+    } else {
+        p.bytes(b"0x");
+        p.hex(b);
     }
-    if b'~' < b {
-        return digits(to, out, at, b);
-    }
-    let quoted = [b'\'', b, b'\''];
-    printer::bytes(to, out, at, &quoted, false)
-}
-
-fn digits(to: Stdout, out: &mut [u8], at: usize, b: u8) -> usize
-    ensures { Gathered at result }
-{
-    let n = printer::bytes(to, out, at, b"0x", false);
-    printer::hex(to, out, n, b)
 }
 
 // A range of a set: its one byte, or its first and last.
-fn range(to: Stdout, out: &mut [u8], at: usize, low: u8, high: u8) -> usize
-    ensures { Gathered at result }
+fn range(p: &mut Printer, low: u8, high: u8)
+    ensures { Gathered p.old p.new }
 {
-    let mut n = printer::bytes(to, out, at, b" ", false);
-    n = letter(to, out, n, low);
-    if low == high {
-        return n;
+    p.bytes(b" ");
+    letter(p, low);
+    if low != high {
+        p.bytes(b"-");
+        letter(p, high);
     }
-    n = printer::bytes(to, out, n, b"-", false);
-    letter(to, out, n, high)
 }
 
 // The ranges of a set.
-fn ranges(to: Stdout, out: &mut [u8], at: usize, pairs: &[u8]) -> usize
-    ensures { Gathered at result }
+fn ranges(p: &mut Printer, pairs: &[u8])
+    ensures { Gathered p.old p.new }
 {
-    let mut n = printer::bytes(to, out, at, b"set", false);
-    let mut i = 0;
-    while i + 1 < pairs.len() {
-        n = range(to, out, n, pairs[i], pairs[i + 1]);
-        i += 2;
+    p.bytes(b"set");
+    let (pairs, _) = pairs.as_chunks::<2>();
+    for &[low, high] in pairs {
+        range(p, low, high);
     }
-    n
 }
 
 // A set, whose ranges stand in the pattern from an offset on.
-fn set(to: Stdout, out: &mut [u8], at: usize, pattern: &[u8], offset: usize, count: usize) -> usize
-    requires { (offset ≤ 65535) × (count ≤ 65535) }
-    ensures { Gathered at result }
+fn set(p: &mut Printer, pattern: &[u8], offset: u16, count: u16)
+    ensures { Gathered p.old p.new }
 {
-    let end = offset + 2 * count;
-    if end <= pattern.len() {
-        ranges(to, out, at, &pattern[offset..end])
-    } else {
-        printer::bytes(to, out, at, b"set outside the pattern", false)
+    let start = usize::from(offset);
+    match pattern.get(start..start + 2 * usize::from(count)) {
+        Some(pairs) => ranges(p, pairs),
+        None => p.bytes(b"set outside the pattern"),
     }
-}
-
-// A byte that stands in a place's number.
-fn byte(x: u16) -> u8 {
-    (x % 256) as u8
 }
 
 // A set of one range, whose least and greatest byte are the place's numbers. A search has two places that take every byte.
-fn single(to: Stdout, out: &mut [u8], at: usize, low: u16, high: u16) -> usize
-    ensures { Gathered at result }
+fn single(p: &mut Printer, low: u16, high: u16)
+    ensures { Gathered p.old p.new }
 {
     if low == 0 && high == 255 {
-        return printer::bytes(to, out, at, b"any byte", false);
+        p.bytes(b"any byte");
+    } else {
+        let ([low, _], [high, _]) = (low.to_le_bytes(), high.to_le_bytes());
+        ranges(p, &[low, high]);
     }
-    let pair = [byte(low), byte(high)];
-    ranges(to, out, at, &pair)
 }
 
 // A begin of a pass, and the groups that it makes absent.
-fn begin(to: Stdout, out: &mut [u8], at: usize, words: &[u8], first: u16, count: u16) -> usize
-    ensures { Gathered at result }
+fn begin(p: &mut Printer, words: &[u8], first: u16, count: u16)
+    ensures { Gathered p.old p.new }
 {
-    let mut n = printer::bytes(to, out, at, words, false);
-    if count == 0 {
-        return n;
+    p.bytes(words);
+    match count {
+        0 => {}
+        1 => labelled(p, b", clears group ", u64::from(first)),
+        _ => {
+            labelled(p, b", clears groups ", u64::from(first));
+            labelled(p, b" to ", u64::from(first) + u64::from(count) - 1);
+        }
     }
-    if count == 1 {
-        return labelled(to, out, n, b", clears group ", wide(first));
-    }
-    n = labelled(to, out, n, b", clears groups ", wide(first));
-    labelled(to, out, n, b" to ", wide(first) + wide(count) - 1)
 }
 
-// The begin of a pass, or its end.
-fn pass(to: Stdout, out: &mut [u8], at: usize, kind: u16, first: u16, count: u16) -> usize
-    ensures { Gathered at result }
-{
-    if kind == PlaceKind::Begin as u16 {
-        return begin(to, out, at, b"begin", first, count);
+impl Place {
+    // What a place does that has one follower.
+    fn action(self, p: &mut Printer, pattern: &[u8])
+        ensures { Gathered p.old p.new }
+    {
+        match self.kind {
+            OPEN => labelled(p, b"open ", u64::from(self.a)),
+            CLOSE => labelled(p, b"close ", u64::from(self.a)),
+            BEGIN => begin(p, b"begin", self.a, self.many),
+            BEGIN_OPTIONAL => begin(p, b"begin optional", self.a, self.many),
+            END => p.bytes(b"end"),
+            SET => set(p, pattern, self.a, self.many),
+            _ => single(p, self.a, self.many),
+        }
     }
-    if kind == PlaceKind::BeginOptional as u16 {
-        return begin(to, out, at, b"begin optional", first, count);
-    }
-    printer::bytes(to, out, at, b"end", false)
-}
 
-// The start of a group, or its end.
-fn group(to: Stdout, out: &mut [u8], at: usize, kind: u16, number: u16) -> usize
-    ensures { Gathered at result }
-{
-    if kind == PlaceKind::Open as u16 {
-        return labelled(to, out, at, b"open ", wide(number));
+    // What a place does and where it leads.
+    fn deed(self, p: &mut Printer, pattern: &[u8])
+        ensures { Gathered p.old p.new }
+    {
+        match self.kind {
+            FORK => {
+                labelled(p, b"fork, prefers ", u64::from(self.next));
+                labelled(p, b", else ", u64::from(self.a));
+            }
+            STOP => p.bytes(b"stop"),
+            ACCEPT => p.bytes(b"accept"),
+            _ => {
+                self.action(p, pattern);
+                labelled(p, b", then ", u64::from(self.next));
+            }
+        }
     }
-    labelled(to, out, at, b"close ", wide(number))
-}
-
-// What a place does that has one follower.
-fn action(
-    to: Stdout,
-    out: &mut [u8],
-    at: usize,
-    pattern: &[u8],
-    kind: u16,
-    a: u16,
-    many: u16,
-) -> usize
-    ensures { Gathered at result }
-{
-    if kind < PlaceKind::Begin as u16 {
-        return group(to, out, at, kind, a);
-    }
-    if kind < PlaceKind::Set as u16 {
-        return pass(to, out, at, kind, a, many);
-    }
-    if kind == PlaceKind::Set as u16 {
-        return set(to, out, at, pattern, wide(a), wide(many));
-    }
-    single(to, out, at, a, many)
-}
-
-// A fork: the branch that it prefers, and the other.
-fn fork(to: Stdout, out: &mut [u8], at: usize, preferred: u16, other: u16) -> usize
-    ensures { Gathered at result }
-{
-    let n = labelled(to, out, at, b"fork, prefers ", wide(preferred));
-    labelled(to, out, n, b", else ", wide(other))
-}
-
-// What a place does and where it leads.
-fn deed(
-    to: Stdout,
-    out: &mut [u8],
-    at: usize,
-    pattern: &[u8],
-    kind: u16,
-    next: u16,
-    a: u16,
-    many: u16,
-) -> usize
-    ensures { Gathered at result }
-{
-    if kind == PlaceKind::Fork as u16 {
-        return fork(to, out, at, next, a);
-    }
-    if kind == PlaceKind::Stop as u16 {
-        return printer::bytes(to, out, at, b"stop", false);
-    }
-    if kind == PlaceKind::Accept as u16 {
-        return printer::bytes(to, out, at, b"accept", false);
-    }
-    let n = action(to, out, at, pattern, kind, a, many);
-    labelled(to, out, n, b", then ", wide(next))
-}
-
-// A line of the listing.
-fn place(
-    to: Stdout,
-    out: &mut [u8],
-    at: usize,
-    pattern: &[u8],
-    number: usize,
-    kind: u16,
-    next: u16,
-    a: u16,
-    many: u16,
-) -> usize
-    ensures { Gathered at result }
-{
-    let mut n = labelled(to, out, at, b"    ", number);
-    n = printer::bytes(to, out, n, b" ", false);
-    n = deed(to, out, n, pattern, kind, next, a, many);
-    printer::bytes(to, out, n, b"\n", false)
 }
 
 // The places whose numbers stand in a table, in order.
-pub fn places(to: Stdout, out: &mut [u8], at: usize, pattern: &[u8], code: &[u16]) -> usize
-    ensures { Gathered at result }
+pub fn places(p: &mut Printer, pattern: &[u8], code: &[u16])
+    ensures { Gathered p.old p.new }
 {
-    let mut n = at;
-    let mut b = 0;
-    while b + 3 < code.len() {
-        n = place(
-            to,
-            out,
-            n,
-            pattern,
-            b / PlaceKind::NUMBERS,
-            code[b],
-            code[b + 1],
-            code[b + 2],
-            code[b + 3],
-        );
-        b += PlaceKind::NUMBERS;
+    let (places, _) = code.as_chunks::<{ PlaceKind::NUMBERS }>();
+    for (number, &[kind, next, a, many]) in places.iter().enumerate() {
+        labelled(p, b"    ", number as u64);
+        p.bytes(b" ");
+        Place {
+            kind,
+            next,
+            a,
+            many,
+        }
+        .deed(p, pattern);
+        p.bytes(b"\n");
     }
-    n
 }

@@ -1,36 +1,37 @@
 // Words, numbers and byte strings, as every part of the program prints them.
+ghost use Rattle.std.specs.Prelude.{◌≤◌};
 ghost use Rattle.printer.specs.Gathered.{Gathered};
 
-use std::io::Stdout;
+use printer::Printer;
 
 // A title, on a line of its own behind an empty one.
-pub fn heading(to: Stdout, out: &mut [u8], at: usize, title: &[u8]) -> usize
-    ensures { Gathered at result }
+pub fn heading(p: &mut Printer, title: &[u8])
+    ensures { Gathered p.old p.new }
 {
-    let mut n = printer::bytes(to, out, at, b"\n", false);
-    n = printer::bytes(to, out, n, title, false);
-    end_line(to, out, n)
+    end_line(p);
+    p.bytes(title);
+    end_line(p);
 }
 
-pub fn end_line(to: Stdout, out: &mut [u8], at: usize) -> usize
-    ensures { Gathered at result }
+pub fn end_line(p: &mut Printer)
+    ensures { Gathered p.old p.new }
 {
-    printer::bytes(to, out, at, b"\n", false)
+    p.bytes(b"\n");
 }
 
 // Words, and a number behind them.
-pub fn labelled(to: Stdout, out: &mut [u8], at: usize, words: &[u8], number: usize) -> usize
-    ensures { Gathered at result }
+pub fn labelled(p: &mut Printer, words: &[u8], number: u64)
+    ensures { Gathered p.old p.new }
 {
-    let n = printer::bytes(to, out, at, words, false);
-    printer::decimal(to, out, n, number as u64, false)
+    p.bytes(words);
+    p.decimal(number);
 }
 
 // Bytes in quotes, as they are.
-pub fn quoted(to: Stdout, out: &mut [u8], at: usize, s: &[u8]) -> usize
-    ensures { Gathered at result }
+pub fn quoted(p: &mut Printer, s: &[u8])
+    ensures { Gathered p.old p.new }
 {
-    let mut n = printer::bytes(to, out, at, b"\"", false);
-    n = printer::bytes(to, out, n, s, false);
-    printer::bytes(to, out, n, b"\"", false)
+    p.bytes(b"\"");
+    p.bytes(s);
+    p.bytes(b"\"");
 }

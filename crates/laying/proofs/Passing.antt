@@ -262,14 +262,14 @@ none_laid {p = p} {first = first} {g = g} {least = least} {may = may} {mode = mo
 
 -- all passes are left
 pub left_all : {model p first g least may mode base next : ℕ} {endless : Bool} (t : List ℕ) → Repeating model p first g least may endless base next
-    → PassesLeft model p first g least may endless mode base next t least may base t
+    → PassesLeft model p first g least may endless mode base next least may base t t
 left_all t m = record { asked = m; same_length = refl; all = λ after r. r }
 
 -- a pass that must be made is laid
 pub left_must : {model p first g least may mode base next must left from v : ℕ} {endless : Bool} {t0 t t1 : List ℕ}
-    → PassesLeft model p first g least may endless mode base next t0 must left from t → (must ≡ 0 → ⊥)
+    → PassesLeft model p first g least may endless mode base next must left from t0 t → (must ≡ 0 → ⊥)
     → v ≡ entry_of (must - 1 + left) (from + 1 + p) next → BegunLaid model p 3 first g from v t t1
-    → PassesLeft model p first g least may endless mode base next t0 (must - 1) left (from + 1 + p) t1
+    → PassesLeft model p first g least may endless mode base next (must - 1) left (from + 1 + p) t0 t1
 left_must i some ev h =
     record {
       asked = must_rest i.asked some;
@@ -279,10 +279,10 @@ left_must i some ev h =
 
 -- an optional pass is laid
 pub left_may : {model p first g least may mode base next left from v : ℕ} {endless : Bool} {t0 t t1 t2 t3 : List ℕ}
-    → PassesLeft model p first g least may endless mode base next t0 0 left from t → (left ≡ 0 → ⊥)
+    → PassesLeft model p first g least may endless mode base next 0 left from t0 t → (left ≡ 0 → ⊥)
     → v ≡ cond endless from (entry_of (left - 1) (from + 1 + 1 + p + 1) next) → Forked t from mode (from + 1) next t1
     → BegunLaid model p 4 first g (from + 1) (from + 1 + 1 + p) t1 t2 → Put t2 (from + 1 + 1 + p) 5 v 0 0 t3
-    → PassesLeft model p first g least may endless mode base next t0 0 (left - 1) (from + 1 + 1 + p + 1) t3
+    → PassesLeft model p first g least may endless mode base next 0 (left - 1) (from + 1 + 1 + p + 1) t0 t3
 left_may i some ev f h end =
     record {
       asked = may_rest i.asked refl some;
@@ -292,7 +292,7 @@ left_may i some ev f h end =
 
 -- its fork fits
 pub left_fork : {model p first g least may mode base next left from : ℕ} {endless : Bool} {t0 t : List ℕ}
-    → PassesLeft model p first g least may endless mode base next t0 0 left from t → (left ≡ 0 → ⊥) → 2040 ≤ length t0 → Fitting t from (from + 1) next 0
+    → PassesLeft model p first g least may endless mode base next 0 left from t0 t → (left ≡ 0 → ⊥) → 2040 ≤ length t0 → Fitting t from (from + 1) next 0
 left_fork {p = p} {left = left} i some room =
     let total = places_may 0 left p refl some in
     record {
@@ -304,6 +304,6 @@ left_fork {p = p} {left = left} i some room =
 
 -- none is left
 pub left_none : {model p first g least may mode base next left from : ℕ} {endless : Bool} {t0 t : List ℕ}
-    → PassesLeft model p first g least may endless mode base next t0 0 left from t → left ≡ 0
+    → PassesLeft model p first g least may endless mode base next 0 left from t0 t → left ≡ 0
     → PassesLaid model p first g least may endless mode base next t0 t
 left_none {endless = endless} {t = t} i none = i.all t (none_laid endless refl none)

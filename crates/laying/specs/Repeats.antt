@@ -10,6 +10,7 @@ use Rattle.laying.specs.Laid.{Holds, Kept, entry_of, Lays}
 use Rattle.laying.specs.Room.{most_places}
 use Rattle.laying.specs.Single.{Head}
 use Rattle.laying.specs.Copies.{Model}
+use Rattle.laying.specs.declared.repeats.Passes.{Passes}
 
 -- `passes`: passes that must be made, then optional ones; without an upper end there is one of these
 abbrev pub optional_core : Bool → ℕ → Mode → ℕ → ℕ → Core → Core
@@ -51,12 +52,22 @@ pub record PassesLaid (model p first g least may : ℕ) (endless : Bool) (mode b
   pub laid : (bs : List ℕ) (e : Core) → p ≡ size e → ((least + may ≡ 0 → ⊥) → Lays before bs e model (model + p))
       → Lays after bs (pass_core least endless may (mode_of mode) first g e) base next
 
+-- the same of the passes as they are told
+abbrev pub PassesAsked : Passes → Type 0
+PassesAsked p = Repeating p.pass.model p.pass.places p.pass.first p.pass.groups p.must p.may p.endless p.base p.next
+
+abbrev pub PassesMade : Passes → List ℕ → List ℕ → Type 0
+PassesMade p = PassesLaid p.pass.model p.pass.places p.pass.first p.pass.groups p.must p.may p.endless p.mode p.base p.next
+
 -- `must_passes`: so many passes are left to be laid from an index on, and whoever lays them has laid them all
-pub record PassesLeft (model p first g least may : ℕ) (endless : Bool) (mode base next : ℕ) (before : List ℕ) (must left from : ℕ) (now : List ℕ) : Type 0 where
+pub record PassesLeft (model p first g least may : ℕ) (endless : Bool) (mode base next must left from : ℕ) (before now : List ℕ) : Type 0 where
   pub asked : Repeating model p first g must left endless from next
   pub same_length : length now ≡ length before
   pub all : (after : List ℕ) → PassesLaid model p first g must left endless mode from next now after
       → PassesLaid model p first g least may endless mode base next before after
+
+abbrev pub PassesToMake : Passes → ℕ → ℕ → ℕ → List ℕ → List ℕ → Type 0
+PassesToMake p = PassesLeft p.pass.model p.pass.places p.pass.first p.pass.groups p.must p.may p.endless p.mode p.base p.next
 
 -- `inner_places`: the places of some passes, and there is a pass
 pub record Passed (all least may : ℕ) : Type 0 where

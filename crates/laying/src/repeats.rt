@@ -1,23 +1,33 @@
 // The passes of a repeat: those that must be made, then the optional ones, each around a copy of the inner part.
-ghost use Rattle.std.specs.Prelude.{◌≡◌, cond, ◌-◌, ◌≤◌, ◌<◌, length};
+ghost use Rattle.std.specs.Prelude.{◌≡◌, cond, ◌-◌, ◌≤◌, ◌<◌};
 ghost use Rattle.laying.specs.Laid.{entry_of};
-ghost use Rattle.laying.specs.Room.{most_places, table_room};
-ghost use Rattle.laying.specs.Repeats.{inner_start, Begun, BegunLaid, Repeating, PassesLaid, PassesLeft, Passed, PassedInside};
+ghost use Rattle.laying.specs.Lent.{Writes};
+ghost use Rattle.laying.specs.Room.{most_places};
+ghost use Rattle.laying.specs.Repeats.{inner_start, Begun, BegunLaid, PassesAsked, PassesMade, PassesToMake, Passed, PassedInside};
 
-use crate::copies::{Shift, copied};
-use crate::{entered, pass_fork, put};
+use crate::copies::Shift;
+use crate::{Place, Table, entered};
 use pattern::PlaceKind;
 
-// How the passes of a repeat are made: where the inner part that they copy stands, its places, its first group and how many groups each pass clears,
-// whether there is no upper end, and the mode.
+// What every pass of a repeat has: where the inner part that it copies stands, its places, its first group and how many groups the pass clears.
 #[derive(Clone, Copy)]
 pub struct Pass {
     pub model: usize,
     pub places: usize,
     pub first: usize,
     pub groups: usize,
+}
+
+// The passes of a repeat: how many must be made and how many may, whether there is no upper end, the mode, where they stand and what follows them.
+#[derive(Clone, Copy)]
+pub struct Passes {
+    pub pass: Pass,
+    pub must: usize,
+    pub may: usize,
     pub endless: bool,
     pub mode: usize,
+    pub base: usize,
+    pub next: usize,
 }
 
 // The places of what a repeat repeats, by those of the whole repeat.
@@ -39,100 +49,92 @@ pub fn inner_start(must: usize, base: usize) -> usize
     if must == 0 { base + 2 } else { base + 1 }
 }
 
-// Where the end of an optional pass leads.
-fn pass_end(endless: bool, may: usize, base: usize, after: usize, next: usize) -> usize
-    requires { 0 < may }
-    ensures { result ≡ cond endless base (entry_of (may - 1) after next) }
-{
-    if endless {
-        base
-    } else {
-        entered(may - 1, after, next)
-    }
-}
-
-// A begin of a pass, and the inner part behind it.
-fn begun(table: &mut [u16], pass: Pass, kind: u16, base: usize, next: usize)
-    requires begun { Begun pass.model pass.places kind pass.first pass.groups base next }
-    requires room { table_room ≤ length table.old }
-    ensures { BegunLaid pass.model pass.places kind pass.first pass.groups base next table.old table.new }
-{
-    let places = pass.places;
-    let inside = base + 1;
-    put(
-        table,
-        base,
-        kind,
-        entered(places, inside, next),
-        pass.first,
-        pass.groups,
-    );
-    if pass.model == inside {
-        if next == inside + places {
-            // The part that the others copy stands here already, and leads where it should.
-            return;
+impl Pass {
+    // A begin of a pass, and the inner part behind it.
+    fn begun(self, table: &mut Table, kind: u16, base: usize, next: usize)
+        requires { Begun self.model self.places kind self.first self.groups base next }
+        ensures { Writes (BegunLaid self.model self.places kind self.first self.groups base next) table.old table.new }
+    {
+        let to = base + 1;
+        let count = self.places;
+        let begin = Place {
+            kind,
+            next: entered(count, to, next),
+            a: self.first,
+            n: self.groups,
+        };
+        table.put(base, begin);
+        // The part that the others copy may stand here already, and lead where it should.
+        if self.model != to || next != to + count {
+            Shift {
+                from: self.model,
+                count,
+                to,
+                next,
+            }
+            .copied(table);
         }
     }
-    let shift = Shift {
-        from: pass.model,
-        count: places,
-        to: inside,
-        next,
-    };
-    copied(table, shift);
 }
 
-// The passes that must be made, one after another; answers where the optional ones start.
-fn must_passes(
-    table: &mut [u16],
-    pass: Pass,
-    must: usize,
-    may: usize,
-    base: usize,
-    next: usize,
-) -> usize
-    requires repeating { Repeating pass.model pass.places pass.first pass.groups must may pass.endless base next }
-    requires room { table_room ≤ length table.old }
-    ensures { PassesLeft pass.model pass.places pass.first pass.groups must may pass.endless pass.mode base next table.old 0 may result table.new }
-{
-    let mut left = must;
-    let mut from = base;
-    while left != 0 {
-        let after = from + 1 + pass.places;
-        let out = entered(left - 1 + may, after, next);
-        begun(table, pass, PlaceKind::Begin as u16, from, out);
-        from = after;
-        left -= 1;
+impl Passes {
+    // Where the end of an optional pass leads, which others follow.
+    fn pass_end(self, others: usize, base: usize, after: usize) -> usize
+        ensures { result ≡ cond self.endless base (entry_of others after self.next) }
+    {
+        if self.endless {
+            base
+        } else {
+            entered(others, after, self.next)
+        }
     }
-    from
-}
 
-// The optional passes, one after another; without an upper end there is one, whose end leads back.
-fn may_passes(table: &mut [u16], pass: Pass, may: usize, base: usize, next: usize)
-    requires repeating { Repeating pass.model pass.places pass.first pass.groups 0 may pass.endless base next }
-    requires room { table_room ≤ length table.old }
-    ensures { PassesLaid pass.model pass.places pass.first pass.groups 0 may pass.endless pass.mode base next table.old table.new }
-{
-    let mut left = may;
-    let mut from = base;
-    while left != 0 {
-        let begin = from + 1;
-        let end = begin + 1 + pass.places;
-        let out = pass_end(pass.endless, left, from, end + 1, next);
-        pass_fork(table, from, pass.mode, begin, next);
-        begun(table, pass, PlaceKind::BeginOptional as u16, begin, end);
-        put(table, end, PlaceKind::End as u16, out, 0, 0);
-        from = end + 1;
-        left -= 1;
+    // The passes that must be made, one after another; answers where the optional ones start.
+    fn must_passes(self, table: &mut Table) -> usize
+        requires { PassesAsked self }
+        ensures { Writes (PassesToMake self 0 self.may result) table.old table.new }
+    {
+        let mut from = self.base;
+        for left in (0..self.must).rev() {
+            let after = from + 1 + self.pass.places;
+            let out = entered(left + self.may, after, self.next);
+            self.pass.begun(table, PlaceKind::Begin as u16, from, out);
+            from = after;
+        }
+        from
     }
-}
 
-// The passes of a repeat: those that must be made, then the optional ones.
-pub fn passes(table: &mut [u16], pass: Pass, must: usize, may: usize, base: usize, next: usize)
-    requires repeating { Repeating pass.model pass.places pass.first pass.groups must may pass.endless base next }
-    requires room { table_room ≤ length table.old }
-    ensures { PassesLaid pass.model pass.places pass.first pass.groups must may pass.endless pass.mode base next table.old table.new }
-{
-    let from = must_passes(table, pass, must, may, base, next);
-    may_passes(table, pass, may, from, next);
+    // The optional passes, one after another; without an upper end there is one, whose end leads back.
+    fn may_passes(self, table: &mut Table)
+        requires none { self.must ≡ 0 }
+        requires asked { PassesAsked self }
+        ensures { Writes (PassesMade self) table.old table.new }
+    {
+        let mut from = self.base;
+        for left in (0..self.may).rev() {
+            let begin = from + 1;
+            let end = begin + 1 + self.pass.places;
+            let after = end + 1;
+            let out = self.pass_end(left, from, after);
+            table.pass_fork(from, self.mode, begin, self.next);
+            self.pass
+                .begun(table, PlaceKind::BeginOptional as u16, begin, end);
+            table.put(end, Place::plain(PlaceKind::End as u16, out));
+            from = after;
+        }
+    }
+
+    // The passes: those that must be made, then the optional ones.
+    pub fn lay(self, table: &mut Table)
+        requires { PassesAsked self }
+        ensures { Writes (PassesMade self) table.old table.new }
+    {
+        let base = self.must_passes(table);
+        Passes {
+            must: 0,
+            base,
+            ..self
+        }
+        .may_passes(table);
+    }
 }

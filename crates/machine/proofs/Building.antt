@@ -13,8 +13,10 @@ use Rattle.paper.specs.Machine.{Place, places_of}
 use Rattle.paper.specs.Tables.{place_numbers}
 use Rattle.paper.proofs.layout.Lawful.{accepted_lawful}
 use Rattle.paper.proofs.machine.Sizes.{places_wrap, depth_wrap}
-use Rattle.pattern.specs.declared.Answer.{Answer}
-use Rattle.pattern.specs.declared.Answer.TheVariants.{Accepted}
+use Rattle.std.specs.Prelude.{Result, Ok, Err}
+use Rattle.pattern.specs.declared.Numbers as declared
+use Rattle.pattern.specs.declared.Refused as refusing
+use Rattle.pattern.specs.Refusals.{number_of}
 use Rattle.pattern.specs.Answer.{answer_of, Checks}
 use Rattle.laying.specs.Room.{table_room}
 use Rattle.places.specs.Built as places
@@ -32,14 +34,15 @@ pub record Tree (pattern : List ℕ) (all deep many : ℕ) : Type 0 where
   pub many_are : many ≡ groups tree
 
 -- checking takes a pattern exactly where it has a tree
-pub tree_of : {pattern : List ℕ} {r : Answer} {n d g : ℕ} → Checks pattern r → r ≡ Accepted n d g → Tree pattern n d g
-tree_of {pattern} {r} {n} {d} {g} checked is = look (pattern_of pattern) refl (sym (ap answer_of is) ∙ checked.answer)
+pub tree_of : {pattern : List ℕ} {r : Result declared.Numbers refusing.Refused} {n : declared.Numbers} → Checks pattern r → r ≡ Ok n → Tree pattern n.places n.depth n.groups
+tree_of {pattern} {r} {n} checked is = look (pattern_of pattern) refl (sym (ap answer_of is) ∙ checked.answer)
   where
     look : (found : Checked Pattern) → pattern_of pattern ≡ found
-        → accepted (record { places = n; depth = d; groups = g }) ≡ (found >>= λ e. accepted (numbers_of e)) → Tree pattern n d g
+        → accepted (record { places = n.places; depth = n.depth; groups = n.groups }) ≡ (found >>= λ e. accepted (numbers_of e))
+        → Tree pattern n.places n.depth n.groups
     look (refused number place) is e = let z : ◌≡◌ {A = ℕ} 0 1 = cc in absurd (omega arith)
     look (accepted tree) is e =
-        let same : ◌≡◌ {A = Numbers} (record { places = n; depth = d; groups = g }) (numbers_of tree) = cc in
+        let same : ◌≡◌ {A = Numbers} (record { places = n.places; depth = n.depth; groups = n.groups }) (numbers_of tree) = cc in
         record { tree = tree; found = is; all_are = ap (λ (m : Numbers). m.places) same; deep_is = ap (λ (m : Numbers). m.depth) same; many_are = ap (λ (m : Numbers). m.groups) same }
 
 -- so it can be built
@@ -47,13 +50,14 @@ pub accepted_of : {pattern : List ℕ} {n d g : ℕ} → Tree pattern n d g → 
 accepted_of t = record { tree = t.tree; found = t.found; places_are = omega (arith, t.all_are); groups_are = t.many_are }
 
 -- and refuses it otherwise
-pub fault_of : {pattern : List ℕ} {r : Answer} {number place : ℕ} → Checks pattern r → r ≡ Answer.Refused number place → pattern_of pattern ≡ refused number place
-fault_of {pattern} {r} {number} {place} checked is = look (pattern_of pattern) refl (sym (ap answer_of is) ∙ checked.answer)
+pub fault_of : {pattern : List ℕ} {r : Result declared.Numbers refusing.Refused} {e : refusing.Refused} → Checks pattern r → r ≡ Err e
+    → pattern_of pattern ≡ refused (number_of e.refusal) e.place
+fault_of {pattern} {r} {e} checked is = look (pattern_of pattern) refl (sym (ap answer_of is) ∙ checked.answer)
   where
-    look : (found : Checked Pattern) → pattern_of pattern ≡ found → refused number place ≡ (found >>= λ e. accepted (numbers_of e))
-        → pattern_of pattern ≡ refused number place
-    look (refused number' place') is e = let same : ◌≡◌ {A = Checked Pattern} (refused number' place') (refused number place) = cc in is ∙ same
-    look (accepted tree) is e = cc
+    look : (found : Checked Pattern) → pattern_of pattern ≡ found → refused (number_of e.refusal) e.place ≡ (found >>= λ e. accepted (numbers_of e))
+        → pattern_of pattern ≡ refused (number_of e.refusal) e.place
+    look (refused number' place') is q = let same : ◌≡◌ {A = Checked Pattern} (refused number' place') (refused (number_of e.refusal) e.place) = cc in is ∙ same
+    look (accepted tree) is q = cc
 
 -- what stands behind the places of a table that was built into is as it was
 behind_places : {list : List Place} {count : ℕ} {pattern before after : List ℕ} → places.Built list count pattern before after

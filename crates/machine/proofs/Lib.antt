@@ -2,3 +2,4 @@
 pub mod Wiring
 pub mod Running
 pub mod Building
+pub mod Only

@@ -12,17 +12,20 @@ use Rattle.paper.specs.Limits.{line_bytes, absent}
 use Rattle.paper.specs.Refusal.{accepted}
 use Rattle.paper.specs.Pattern.{Pattern}
 use Rattle.paper.specs.Check.{pattern_of}
-use Rattle.paper.specs.Rows.{Rows, no_rows, set_row}
+use Rattle.paper.specs.Rows.{Rows, no_rows}
 use Rattle.paper.specs.Machine.{Place, at, Stopped, matched, unmatched, run, pairs, machine, steps_of, rows_of}
-use Rattle.paper.specs.Match.{with_row0, whole_match, wrap, search, match_steps, search_steps}
+use Rattle.paper.specs.Match.{with_row0, wrap, is_match, rows_or_none}
 use Rattle.paper.specs.Replace.{moved_by, moved, moved_stopped}
 use Rattle.paper.proofs.machine.MachineReads.{machine_matches, machine_searches}
 use Rattle.paper.proofs.machine.MovedMachine.{steps_moved, rows_moved, machine_moved}
 use Rattle.visit.specs.Wired.{Wired}
-use Rattle.std.specs.Prelude.{Option as Rust_option}
-use Rattle.run.specs.Steps.{Running, Runs}
-use Rattle.run.specs.Steps as running
-use Rattle.machine.specs.Machine.{stopped_as, wrapped, first_group, Ready, lists_numbers, pending_numbers, RunsFrom, Gives, OrNone}
+use Rattle.std.specs.Prelude as rust
+use Rattle.std.specs.Prelude.{is_some, unwrap_or}
+use Rattle.run.specs.Steps.{Running, Runs, stopped_as}
+use Rattle.run.specs.declared.Ran.{Ran}
+use Rattle.machine.specs.Machine.{wrapped, first_group, Ready, RunsFrom, found_of, MatchGives, SearchGives}
+use Rattle.machine.specs.declared.scratch.Scratch.{Scratch}
+use Rattle.machine.specs.Scratch.{lists_numbers, pending_numbers, Lasts, Runnable}
 use Rattle.machine.proofs.Wiring.{ready_places, ready_pairs, ready_wired}
 
 -- a machine that is ready can be run in scratch of its sizes
@@ -44,9 +47,9 @@ runs_safely {pattern} {code} {places = places} m cells few lists_long pending_lo
 
 -- the run of the table is the machine's on the rest, moved
 pub run_from : {pattern code : List ℕ} {searches : Bool} {places deep : ℕ} (m : Ready pattern code searches places deep)
-    (line : List ℕ) (from cells steps : ℕ) (rows : Rust_option Rows) → length line ≤ line_bytes → from ≤ length line
+    (line : List ℕ) (from cells steps : ℕ) (rows : rust.Option Rows) → length line ≤ line_bytes → from ≤ length line
     → cells ≡ places * (deep + 1) → Runs code pattern line places from cells steps rows
-    → running.stopped_as steps rows ≡ moved_stopped from (machine (wrapped searches m.tree) (first_group searches) (drop from line))
+    → stopped_as steps rows ≡ moved_stopped from (machine (wrapped searches m.tree) (first_group searches) (drop from line))
 run_from {pattern} {code} {searches} {places} {deep} m line from cells steps rows short inside same ran =
     let e = wrapped searches m.tree in
     let first = first_group searches in
@@ -77,84 +80,83 @@ stopped_stays : (stopped : Stopped) → moved_stopped 0 stopped ≡ stopped
 stopped_stays (matched steps rows) = ap (matched steps) (all_stay rows)
 stopped_stays (unmatched steps) = refl
 
--- the machine's end as what is found: with rows, or with none
-gives_rows : {found : Option Rows} {count steps : ℕ} (rows : Rows) → count ≡ steps → some rows ≡ found → Gives found count true steps rows
-gives_rows {found} {count} {steps} rows c e =
-    subst (λ (f : Option Rows). Gives f count true steps rows) e (record { matched_is = refl; steps_are = sym c; rows_are = refl })
+-- what is read off the machine's end is what the run tells
+steps_read : (steps : ℕ) (rows : rust.Option Rows) → steps_of (stopped_as steps rows) ≡ steps
+steps_read steps (rust.Some rows) = refl
+steps_read steps rust.None = refl
 
-gives_none : {found : Option Rows} {count steps : ℕ} → count ≡ steps → none ≡ found → Gives found count false steps no_rows
-gives_none {found} {count} {steps} c e =
-    subst (λ (f : Option Rows). Gives f count false steps no_rows) e (record { matched_is = refl; steps_are = sym c; rows_are = refl })
-
-kept : {found : Option Rows} {count steps steps' : ℕ} {matched matched' : Bool} {rows rows' : Rows} → Gives found count matched steps (cond matched rows no_rows)
-    → OrNone matched steps rows matched' steps' rows' → Gives found count matched' steps' rows'
-kept g o =
-    record { matched_is = o.matched_is ∙ g.matched_is; steps_are = o.steps_are ∙ g.steps_are; rows_are = o.rows_are ∙ g.rows_are }
+rows_read : (steps : ℕ) (rows : rust.Option Rows) → rows_of (stopped_as steps rows) ≡ found_of rows
+rows_read steps (rust.Some rows) = refl
+rows_read steps rust.None = refl
 
 -- an accepted pattern has one tree
 one_tree : (pattern : List ℕ) {e f : Pattern} → pattern_of pattern ≡ accepted e → pattern_of pattern ≡ accepted f → e ≡ f
 one_tree pattern {e} {f} h h' = let same : accepted e ≡ accepted f = sym h ∙ h' in cc
 
-module _ (pattern code line : List ℕ) (places deep : ℕ) (found : Bool) (steps : ℕ) (rows : Rows) where
-  -- a whole match, by a machine built for it
-  module _ (m : Ready pattern code false places deep) (ran : RunsFrom pattern code line places deep 0 found steps rows)
-      (e : Pattern) (accepts : pattern_of pattern ≡ accepted e) where
-    matches : stopped_as found steps rows ≡ machine e 1 line
-    matches =
-        ran false m ∙ stopped_stays (machine m.tree 1 line) ∙ ap (λ (t : Pattern). machine t 1 line) (one_tree pattern m.found accepts)
-
-    match_rows : (stopped : Stopped) → stopped ≡ machine e 1 line → with_row0 (length line) (rows_of stopped) ≡ whole_match e line
-    match_rows stopped same = ap (λ (s : Stopped). with_row0 (length line) (rows_of s)) same ∙ machine_matches e line
-
-    match_found : found ≡ true → Gives (whole_match e line) (match_steps e line) true steps (set_row 0 0 (length line) rows)
-    match_found is =
-        let same : matched steps rows ≡ machine e 1 line = ap (λ (b : Bool). stopped_as b steps rows) (sym is) ∙ matches in
-        gives_rows (set_row 0 0 (length line) rows) (sym (ap steps_of same)) (match_rows (matched steps rows) same)
-
-    match_none : found ≡ false → Gives (whole_match e line) (match_steps e line) false steps no_rows
-    match_none is =
-        let same : unmatched steps ≡ machine e 1 line = ap (λ (b : Bool). stopped_as b steps rows) (sym is) ∙ matches in
-        gives_none (sym (ap steps_of same)) (match_rows (unmatched steps) same)
-
-    -- row 0 is the line
-    pub match_gives : {matched' : Bool} {steps' : ℕ} {rows' : Rows} → OrNone found steps (set_row 0 0 (length line) rows) matched' steps' rows'
-        → Gives (whole_match e line) (match_steps e line) matched' steps' rows'
-    match_gives = kept (look found refl)
-      where
-        look : (b : Bool) → found ≡ b → Gives (whole_match e line) (match_steps e line) b steps (cond b (set_row 0 0 (length line) rows) no_rows)
-        look true is = match_found is
-        look false is = match_none is
+module _ (pattern code line : List ℕ) (places deep : ℕ) (ran : Ran) where
+  -- a whole match, by a machine built for it: row 0 is the line
+  pub match_gives : Ready pattern code false places deep → RunsFrom pattern code line places deep 0 ran → {told : Ran} → told.steps ≡ ran.steps
+      → found_of told.rows ≡ with_row0 (length line) (found_of ran.rows) → MatchGives pattern line told
+  match_gives m runs same_steps same_rows e accepts =
+      let same : stopped_as ran.steps ran.rows ≡ machine e 1 line =
+      runs false m ∙ stopped_stays (machine m.tree 1 line) ∙ ap (λ (t : Pattern). machine t 1 line) (one_tree pattern m.found accepts) in
+      record {
+        steps_are = same_steps ∙ sym (steps_read ran.steps ran.rows) ∙ ap steps_of same;
+        rows_are =
+            same_rows
+            ∙ ap (with_row0 (length line)) (sym (rows_read ran.steps ran.rows) ∙ ap rows_of same)
+            ∙ machine_matches e line;
+      }
 
   -- a search from a position, by a machine built for it
-  module _ (from : ℕ) (m : Ready pattern code true places deep) (ran : RunsFrom pattern code line places deep from found steps rows)
-      (e : Pattern) (accepts : pattern_of pattern ≡ accepted e) where
-    abbrev rest : List ℕ
-    rest = drop from line
+  pub search_gives : (from : ℕ) → Ready pattern code true places deep → RunsFrom pattern code line places deep from ran → SearchGives pattern line from ran
+  search_gives from m runs e accepts =
+      let rest = drop from line in
+      let same : stopped_as ran.steps ran.rows ≡ moved_stopped from (machine (wrap e) 0 rest) =
+      runs true m ∙ ap (λ (t : Pattern). moved_stopped from (machine (wrap t) 0 rest)) (one_tree pattern m.found accepts) in
+      record {
+        steps_are = sym (steps_read ran.steps ran.rows) ∙ ap steps_of same ∙ steps_moved from (machine (wrap e) 0 rest);
+        rows_are =
+            sym (rows_read ran.steps ran.rows)
+            ∙ ap rows_of same
+            ∙ rows_moved from (machine (wrap e) 0 rest)
+            ∙ ap (map (moved from)) (machine_searches e rest);
+      }
 
-    searches : stopped_as found steps rows ≡ moved_stopped from (machine (wrap e) 0 rest)
-    searches = ran true m ∙ ap (λ (t : Pattern). moved_stopped from (machine (wrap t) 0 rest)) (one_tree pattern m.found accepts)
+-- What a run tells
 
-    search_count : (stopped : Stopped) → stopped ≡ moved_stopped from (machine (wrap e) 0 rest) → search_steps e rest ≡ steps_of stopped
-    search_count stopped same = sym (ap steps_of same ∙ steps_moved from (machine (wrap e) 0 rest))
+-- whether it matched
+pub match_read : (rows : rust.Option Rows) → is_some rows ≡ is_match (found_of rows)
+match_read (rust.Some rows) = refl
+match_read rust.None = refl
 
-    search_rows : (stopped : Stopped) → stopped ≡ moved_stopped from (machine (wrap e) 0 rest) → rows_of stopped ≡ map (moved from) (search e rest)
-    search_rows stopped same =
-        ap rows_of same ∙ rows_moved from (machine (wrap e) 0 rest) ∙ ap (map (moved from)) (machine_searches e rest)
+-- its rows, or none present
+pub rows_written : (rows : rust.Option Rows) → unwrap_or rows no_rows ≡ rows_or_none (found_of rows)
+rows_written (rust.Some rows) = refl
+rows_written rust.None = refl
 
-    search_found : found ≡ true → Gives (map (moved from) (search e rest)) (search_steps e rest) true steps rows
-    search_found is =
-        let same : matched steps rows ≡ moved_stopped from (machine (wrap e) 0 rest) = ap (λ (b : Bool). stopped_as b steps rows) (sym is) ∙ searches in
-        gives_rows rows (search_count (matched steps rows) same) (search_rows (matched steps rows) same)
+-- scratch that lasts
+pub lasts_start : {scratch : Scratch} → Lasts scratch scratch
+lasts_start = record { seen_same = refl; taken_same = refl; lists_same = refl; pending_same = refl }
 
-    search_none : found ≡ false → Gives (map (moved from) (search e rest)) (search_steps e rest) false steps no_rows
-    search_none is =
-        let same : unmatched steps ≡ moved_stopped from (machine (wrap e) 0 rest) = ap (λ (b : Bool). stopped_as b steps rows) (sym is) ∙ searches in
-        gives_none (search_count (unmatched steps) same) (search_rows (unmatched steps) same)
+pub lasts_on : {a b c : Scratch} → Lasts a b → Lasts b c → Lasts a c
+lasts_on k m = record {
+  seen_same = m.seen_same ∙ k.seen_same;
+  taken_same = m.taken_same ∙ k.taken_same;
+  lists_same = m.lists_same ∙ k.lists_same;
+  pending_same = m.pending_same ∙ k.pending_same;
+}
 
-    pub search_gives : {matched' : Bool} {steps' : ℕ} {rows' : Rows} → OrNone found steps rows matched' steps' rows'
-        → Gives (map (moved from) (search e rest)) (search_steps e rest) matched' steps' rows'
-    search_gives = kept (look found refl)
-      where
-        look : (b : Bool) → found ≡ b → Gives (map (moved from) (search e rest)) (search_steps e rest) b steps (cond b rows no_rows)
-        look true is = search_found is
-        look false is = search_none is
+-- a machine that can run from the line's start can run again from any position of it
+pub runs_on : {places deep : ℕ} {line : List ℕ} {from : ℕ} {scratch scratch' : Scratch} → Runnable places deep line 0 scratch → Lasts scratch scratch'
+    → from ≤ length line → Runnable places deep line from scratch'
+runs_on r lasts inside = record {
+  short = r.short;
+  starts = inside;
+  roomy = record {
+    seen_long = omega (arith, r.roomy.seen_long, lasts.seen_same);
+    taken_long = omega (arith, r.roomy.taken_long, lasts.taken_same);
+    lists_long = omega (arith, r.roomy.lists_long, lasts.lists_same);
+    pending_long = omega (arith, r.roomy.pending_long, lasts.pending_same);
+  };
+}

@@ -8,7 +8,7 @@ use mathlib.Core.List.{List}
 use lib.Dec.{leb, ltb}
 use lib.ListN.{length, get_or}
 use borrow.Author.Tests.{leb-true, ltb-true}
-use Rattle.paper.specs.Limits.{pattern_levels, row_count, line_bytes}
+use Rattle.paper.specs.Limits.{pattern_levels, row_count}
 use Rattle.paper.specs.Pattern.{Pattern, all_places, depth, groups}
 use Rattle.paper.specs.Layout.{Lawful}
 use Rattle.paper.specs.Machine.{Place, stop, places_of, pairs}
@@ -21,7 +21,9 @@ use Rattle.visit.specs.Wired.{Wired}
 use Rattle.visit.proofs.Cells.{decode_at}
 use Rattle.laying.specs.Laid.{Readable}
 use Rattle.laying.specs.Room.{most_places}
-use Rattle.machine.specs.Machine.{wrapped, first_group, Ready, lists_numbers, pending_numbers, Scratch, small_places, small_levels, fits_small, Runnable}
+use Rattle.machine.specs.declared.scratch.Scratch.{Scratch}
+use Rattle.machine.specs.Machine.{wrapped, first_group, Ready}
+use Rattle.machine.specs.Scratch.{lists_numbers, pending_numbers, Roomy, small_places, small_levels, fits_small}
 
 module _ (pattern : List ℕ) (deep : ℕ → ℕ) (places x : ℕ) where
   -- what is known of the place that four numbers stand for
@@ -145,9 +147,9 @@ ready_wired {pattern} {code} {searches} {places} {deep} m =
     (subst (λ (n : ℕ). (x : ℕ) → x < n → Readable code pattern x) same m.readable)))
 
 -- scratch of the sizes for so many places and levels is long enough for a machine that has no more
-module _ (most levels : ℕ) {seen taken lists pending : List ℕ} (s : length seen ≡ most * levels) (t : length taken ≡ most)
-    (l : length lists ≡ lists_numbers most) (p : length pending ≡ pending_numbers most) where
-  scratch_of : {places deep : ℕ} → places ≤ most → deep + 1 ≤ levels → Scratch places deep seen taken lists pending
+module _ (most levels : ℕ) {scratch : Scratch} (s : length scratch.seen.now ≡ most * levels) (t : length scratch.taken.now ≡ most)
+    (l : length scratch.lists.now ≡ lists_numbers most) (p : length scratch.pending.now ≡ pending_numbers most) where
+  scratch_of : {places deep : ℕ} → places ≤ most → deep + 1 ≤ levels → Roomy places deep scratch
   scratch_of few low = record {
     seen_long = omega (arith, mul-le-mul few low, s);
     taken_long = omega (arith, t);
@@ -157,14 +159,14 @@ module _ (most levels : ℕ) {seen taken lists pending : List ℕ} (s : length s
 
 -- that for the largest machine for every one
 pub ready_scratch : {pattern code : List ℕ} {searches : Bool} {places deep : ℕ} → Ready pattern code searches places deep
-    → {seen taken lists pending : List ℕ} → length seen ≡ most_places * pattern_levels → length taken ≡ most_places → length lists ≡ lists_numbers most_places
-    → length pending ≡ pending_numbers most_places → Scratch places deep seen taken lists pending
+    → {scratch : Scratch} → length scratch.seen.now ≡ most_places * pattern_levels → length scratch.taken.now ≡ most_places
+    → length scratch.lists.now ≡ lists_numbers most_places → length scratch.pending.now ≡ pending_numbers most_places → Roomy places deep scratch
 ready_scratch m s t l p = scratch_of most_places pattern_levels s t l p (ready_places m).1 (ready_levels m)
 
 -- and small scratch for a small one
 pub small_scratch : {places deep : ℕ} → fits_small places deep ≡ true
-    → {seen taken lists pending : List ℕ} → length seen ≡ small_places * small_levels → length taken ≡ small_places → length lists ≡ lists_numbers small_places
-    → length pending ≡ pending_numbers small_places → Scratch places deep seen taken lists pending
+    → {scratch : Scratch} → length scratch.seen.now ≡ small_places * small_levels → length scratch.taken.now ≡ small_places
+    → length scratch.lists.now ≡ lists_numbers small_places → length scratch.pending.now ≡ pending_numbers small_places → Roomy places deep scratch
 small_scratch {places} {deep} fits s t l p =
     let (few, low) = look (leb places small_places) refl fits in
     scratch_of small_places small_levels s t l p few (omega arith)
@@ -172,8 +174,3 @@ small_scratch {places} {deep} fits s t l p =
     look : (b : Bool) → leb places small_places ≡ b → cond b (ltb deep small_levels) false ≡ true → (places ≤ small_places) × (deep < small_levels)
     look true e h = (leb-true places small_places e, ltb-true deep small_levels h)
     look false e h = let z : ◌≡◌ {A = ℕ} 0 1 = cc in absurd (omega arith)
-
--- with it the machine can run from the line's start
-pub ready_runs : {pattern code line : List ℕ} {searches : Bool} {places deep : ℕ} {seen taken lists pending : List ℕ} → Ready pattern code searches places deep
-    → length line ≤ line_bytes → Scratch places deep seen taken lists pending → Runnable pattern code line searches places deep 0 seen taken lists pending
-ready_runs m short scratch = record { ready = m; short = short; starts = omega arith; scratch = scratch }

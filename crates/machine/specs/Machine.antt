@@ -1,17 +1,18 @@
 -- A machine built once and run on many lines: what the tables hold, what a run of it asks and gives. Inner promises cite this file, and those of `toj_build` and `toj_run`, which lend a machine.
-use Rattle.std.specs.Prelude.{ℕ, ◌+◌, ◌*◌, ◌≤◌, ◌<◌, ◌≡◌, Bool, true, false, cond, List, leb, ltb, length, drop}
-use Rattle.std.proofs.Math.Option.{Option, map}
-use Rattle.paper.specs.Limits.{line_bytes}
+use Rattle.std.specs.Prelude.{ℕ, ◌*◌, ◌≤◌, ◌<◌, ◌≡◌, Bool, true, false, List, length, drop}
+use Rattle.std.specs.Prelude as rust
+use Rattle.std.proofs.Math.Option.{Option, none, some, map}
 use Rattle.paper.specs.Refusal.{refused, accepted}
 use Rattle.paper.specs.Pattern.{Pattern, all_places, depth, groups}
 use Rattle.paper.specs.Layout.{Lawful}
 use Rattle.paper.specs.Check.{pattern_of}
-use Rattle.paper.specs.Rows.{Rows, no_rows}
-use Rattle.paper.specs.Machine.{Stopped, places_of, machine}
-use Rattle.paper.specs.Match.{wrap, whole_match, search, match_steps, search_steps, is_match, rows_or_none}
+use Rattle.paper.specs.Rows.{Rows}
+use Rattle.paper.specs.Machine.{places_of, machine}
+use Rattle.paper.specs.Match.{wrap, whole_match, search, match_steps, search_steps}
 use Rattle.paper.specs.Tables.{place_numbers, decode}
 use Rattle.paper.specs.Replace.{moved, moved_stopped}
-use Rattle.threads.specs.Threads.{thread_numbers, branch_numbers}
+use Rattle.run.specs.Steps.{stopped_as}
+use Rattle.run.specs.declared.Ran.{Ran}
 use Rattle.laying.specs.Laid.{Readable}
 use Rattle.machine.specs.declared.Built.{Built}
 use Rattle.machine.specs.declared.Built.TheVariants.{Refused, Machine}
@@ -44,71 +45,31 @@ Builds pattern searches before after (Machine places deep many) =
     × (many ≡ groups m.tree)
     × (drop (place_numbers * places) after ≡ drop (place_numbers * places) before)
 
--- how many numbers the two lists of threads have, each with an entry more for the winner, and the branches that wait
-abbrev pub lists_numbers : ℕ → ℕ
-lists_numbers places = 2 * (thread_numbers * (places + 1))
-
-abbrev pub pending_numbers : ℕ → ℕ
-pending_numbers places = branch_numbers * (2 * places)
-
--- the scratch is long enough
-pub record Scratch (places deep : ℕ) (seen taken lists pending : List ℕ) : Type 0 where
-  pub seen_long : places * (deep + 1) ≤ length seen
-  pub taken_long : places ≤ length taken
-  pub lists_long : lists_numbers places ≤ length lists
-  pub pending_long : pending_numbers places ≤ length pending
-
--- a machine of few places and levels, for which small scratch is enough
-abbrev pub small_places : ℕ
-small_places = 64
-
-abbrev pub small_levels : ℕ
-small_levels = 4
-
-abbrev pub fits_small : ℕ → ℕ → Bool
-fits_small places deep = cond (leb places small_places) (ltb deep small_levels) false
-
--- what a run from a position asks: tables as building left them, a line within the limit, and scratch
-pub record Runnable (pattern code line : List ℕ) (searches : Bool) (places deep from : ℕ) (seen taken lists pending : List ℕ) : Type 0 where
-  pub ready : Ready pattern code searches places deep
-  pub short : length line ≤ line_bytes
-  pub starts : from ≤ length line
-  pub scratch : Scratch places deep seen taken lists pending
-
--- how a run's answer reads as the definition's
-abbrev pub stopped_as : Bool → ℕ → Rows → Stopped
-stopped_as true steps rows = Stopped.matched steps rows
-stopped_as false steps rows = Stopped.unmatched steps
-
--- what it promises: the list machine's end on the rest of the line, the rows as places in the whole line
-abbrev pub RunsFrom : List ℕ → List ℕ → List ℕ → ℕ → ℕ → ℕ → Bool → ℕ → Rows → Type 0
-RunsFrom pattern code line places deep from matched steps rows =
+-- what a run promises: the list machine's end on the rest of the line, the rows as places in the whole line
+abbrev pub RunsFrom : List ℕ → List ℕ → List ℕ → ℕ → ℕ → ℕ → Ran → Type 0
+RunsFrom pattern code line places deep from ran =
     (searches : Bool) (m : Ready pattern code searches places deep)
-    → stopped_as matched steps rows ≡ moved_stopped from (machine (wrapped searches m.tree) (first_group searches) (drop from line))
+    → stopped_as ran.steps ran.rows ≡ moved_stopped from (machine (wrapped searches m.tree) (first_group searches) (drop from line))
 
--- rows and steps by value: whether there is a match, its rows, all absent where there is none, and the steps
-pub record Gives (found : Option Rows) (count : ℕ) (matched : Bool) (steps : ℕ) (rows : Rows) : Type 0 where
-  pub matched_is : matched ≡ is_match found
-  pub steps_are : steps ≡ count
-  pub rows_are : rows ≡ rows_or_none found
+-- the rows of a run, where it matched, as `paper` tells what is found
+abbrev pub found_of : rust.Option Rows → Option Rows
+found_of (rust.Some rows) = some rows
+found_of rust.None = none
 
--- the same rows where there is a match, else none
-pub record OrNone (matched : Bool) (steps : ℕ) (rows : Rows) (matched' : Bool) (steps' : ℕ) (rows' : Rows) : Type 0 where
-  pub matched_is : matched' ≡ matched
-  pub steps_are : steps' ≡ steps
-  pub rows_are : rows' ≡ cond matched rows no_rows
+-- rows and steps by value: the rows that are found, if any are, and the steps
+pub record Gives (found : Option Rows) (count : ℕ) (ran : Ran) : Type 0 where
+  pub steps_are : ran.steps ≡ count
+  pub rows_are : found_of ran.rows ≡ found
 
 -- what a whole match gives for an accepted pattern, and a search from a position
-abbrev pub MatchGives : List ℕ → List ℕ → Bool → ℕ → Rows → Type 0
-MatchGives pattern line matched steps rows =
-    (e : Pattern) → pattern_of pattern ≡ accepted e → Gives (whole_match e line) (match_steps e line) matched steps rows
+abbrev pub MatchGives : List ℕ → List ℕ → Ran → Type 0
+MatchGives pattern line ran = (e : Pattern) → pattern_of pattern ≡ accepted e → Gives (whole_match e line) (match_steps e line) ran
 
-abbrev pub SearchGives : List ℕ → List ℕ → ℕ → Bool → ℕ → Rows → Type 0
-SearchGives pattern line from matched steps rows =
-    (e : Pattern) → pattern_of pattern ≡ accepted e
-    → Gives (map (moved from) (search e (drop from line))) (search_steps e (drop from line)) matched steps rows
+abbrev pub SearchGives : List ℕ → List ℕ → ℕ → Ran → Type 0
+SearchGives pattern line from ran =
+    (e : Pattern) → pattern_of pattern ≡ accepted e → Gives (map (moved from) (search e (drop from line))) (search_steps e (drop from line)) ran
 
 -- the one or the other, from the line's start
-abbrev pub FoundGives : Bool → List ℕ → List ℕ → Bool → ℕ → Rows → Type 0
-FoundGives false pattern line matched steps rows = MatchGives pattern line matched steps rows
-FoundGives true pattern line matched steps rows = SearchGives pattern line 0 matched steps rows
+abbrev pub FoundGives : Bool → List ℕ → List ℕ → Ran → Type 0
+FoundGives false pattern line ran = MatchGives pattern line ran
+FoundGives true pattern line ran = SearchGives pattern line 0 ran

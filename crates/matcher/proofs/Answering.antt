@@ -13,16 +13,18 @@ use Rattle.paper.specs.Refusal.{Checked, refused, accepted, ◌>>=◌, ◌>>◌,
 use Rattle.paper.specs.Pattern.{Pattern}
 use Rattle.paper.specs.Layout.{Lawful}
 use Rattle.paper.specs.Check.{pattern_of}
-use Rattle.paper.specs.Rows.{Rows}
-use Rattle.paper.specs.Match.{whole_match, search, match_steps, search_steps, Found, line_and_table, counted, match_call, search_call, is_match, table_after, Told, told}
+use Rattle.std.specs.Prelude.{is_some, unwrap_or}
+use Rattle.paper.specs.Rows.{Rows, no_rows}
+use Rattle.paper.specs.Match.{whole_match, search, match_steps, search_steps, Found, line_and_table, counted, match_call, search_call, is_match, rows_or_none, table_after, Told, told}
 use Rattle.paper.specs.Bounds.{match_bound, search_bound, most_steps}
 use Rattle.paper.proofs.machine.Bound.{steps_bound, search_bound_law, most_told, match_steps_law, search_steps_law, counted_told}
 use Rattle.matcher.specs.declared.Answer.{Answer}
 use Rattle.matcher.specs.declared.Answer.TheVariants.{Refused, Match, NoMatch}
 use Rattle.matcher.specs.Answer.{answer_of, steps_told, TellsSteps}
 use Rattle.matcher.specs.Promise.{Matches, Searches, Answers}
+use Rattle.run.specs.declared.Ran.{Ran}
 use Rattle.machine.specs.Machine.{Gives, FoundGives}
-use Rattle.machine.proofs.Running.{found_stays}
+use Rattle.machine.proofs.Running.{found_stays, match_read, rows_written}
 
 -- The one answer
 
@@ -155,24 +157,25 @@ module _ (searches : Bool) (pattern line lent : List ℕ) where
           tested true true (le-leb (length line) line_bytes short) (le-leb table_numbers (length lent) long)
           ∙ counted_told (found_of searches e line).rows (found_of searches e line).steps (few_steps searches e line lawful short)
 
-      gives : {matched : Bool} {steps : ℕ} {rows : Rows} → FoundGives searches pattern line matched steps rows
-          → Gives (found_of searches e line).rows (found_of searches e line).steps matched steps rows
-      gives {matched} {steps} {rows} g = by searches g
+      gives : {ran : Ran} → FoundGives searches pattern line ran → Gives (found_of searches e line).rows (found_of searches e line).steps ran
+      gives {ran} g = by searches g
         where
-          by : (s : Bool) → FoundGives s pattern line matched steps rows → Gives (found_of s e line).rows (found_of s e line).steps matched steps rows
+          by : (s : Bool) → FoundGives s pattern line ran → Gives (found_of s e line).rows (found_of s e line).steps ran
           by false g = g e found
-          by true g = subst (λ (o : Option Rows). Gives o (search_steps e line) matched steps rows) (found_stays (search e line)) (g e found)
+          by true g = subst (λ (o : Option Rows). Gives o (search_steps e line) ran) (found_stays (search e line)) (g e found)
 
       -- what was found, told and written
-      pub answers : {matched : Bool} {steps : ℕ} (rows : Rows) {r : Answer} {after : List ℕ} → FoundGives searches pattern line matched steps rows
-          → TellsSteps matched steps r → after ≡ rows ++ drop table_numbers lent → Answers searches pattern line lent r after
-      answers {matched} {steps} rows {r} {after} given tells written =
+      pub answers : (ran : Ran) {matched : Bool} {rows : Rows} {r : Answer} {after : List ℕ} → FoundGives searches pattern line ran → matched ≡ is_some ran.rows
+          → rows ≡ unwrap_or ran.rows no_rows → TellsSteps matched ran.steps r → after ≡ rows ++ drop table_numbers lent → Answers searches pattern line lent r after
+      answers ran {matched} {rows} {r} {after} given is_matched are_rows telling written =
           let g = gives given in
-          let few : steps ≤ most_steps = omega (arith, g.steps_are, few_steps searches e line lawful short) in
+          let few : ran.steps ≤ most_steps = omega (arith, g.steps_are, few_steps searches e line lawful short) in
+          let matched_is : matched ≡ is_match (found_of searches e line).rows = is_matched ∙ match_read ran.rows ∙ ap is_match g.rows_are in
+          let rows_are : rows ≡ rows_or_none (found_of searches e line).rows = are_rows ∙ rows_written ran.rows ∙ ap rows_or_none g.rows_are in
           let same : answer_of r ≡ told (accepted (found_of searches e line)) =
-          tells.never few ∙ ap₂ (λ (b : Bool) (n : ℕ). accepted (record { matched = b; steps = n })) g.matched_is g.steps_are in
+          telling.never few ∙ ap₂ (λ (b : Bool) (n : ℕ). accepted (record { matched = b; steps = n })) matched_is g.steps_are in
           promised searches pattern line lent r after (same ∙ sym (ap told answered))
-          (written ∙ ap (λ (x : Rows). x ++ drop table_numbers lent) g.rows_are ∙ sym (ap (λ (c : Checked Found). table_after c lent) answered))
+          (written ∙ ap (λ (x : Rows). x ++ drop table_numbers lent) rows_are ∙ sym (ap (λ (c : Checked Found). table_after c lent) answered))
           (λ f h. bounded f (sym found ∙ h) (told_steps r (is_match (found_of searches e line).rows) (found_of searches e line).steps same))
         where
           bounded : (f : Pattern) → accepted e ≡ accepted f → steps_told r ≡ (found_of searches e line).steps → steps_told r ≤ bound_of searches f (length line)
@@ -181,9 +184,9 @@ module _ (searches : Bool) (pattern line lent : List ℕ) where
               subst (λ (t : Pattern). steps_told r ≤ bound_of searches t (length line)) one (omega (arith, found_bound searches e line))
 
       -- which is no refusal: within the limits 14 never is
-      pub not_refused : {matched : Bool} {steps : ℕ} (rows : Rows) {r : Answer} → FoundGives searches pattern line matched steps rows
-          → TellsSteps matched steps r → (number place : ℕ) → r ≡ Refused number place → ⊥
-      not_refused {steps = steps} rows {r} given tells number place is =
-          let few : steps ≤ most_steps = omega (arith, (gives given).steps_are, few_steps searches e line lawful short) in
-          let z : ◌≡◌ {A = ℕ} 0 1 = cc (ap answer_of is, tells.never few) in
+      pub not_refused : (ran : Ran) {matched : Bool} {r : Answer} → FoundGives searches pattern line ran
+          → TellsSteps matched ran.steps r → (number place : ℕ) → r ≡ Refused number place → ⊥
+      not_refused ran {r = r} given telling number place is =
+          let few : ran.steps ≤ most_steps = omega (arith, (gives given).steps_are, few_steps searches e line lawful short) in
+          let z : ◌≡◌ {A = ℕ} 0 1 = cc (ap answer_of is, telling.never few) in
           omega arith

@@ -3,7 +3,6 @@
 
 ghost use Rattle.std.specs.Prelude.{◌≡◌, ◌++◌, ◌≤◌, length, drop};
 ghost use Rattle.paper.specs.Limits.{table_numbers};
-ghost use Rattle.machine.specs.Machine.{Ready};
 ghost use Rattle.matcher.specs.Answer.{TellsSteps};
 ghost use Rattle.matcher.specs.Promise.{Matches, Searches, Answers};
 
@@ -23,11 +22,7 @@ pub fn fill(table: &mut [u16], rows: [u16; Spans::NUMBERS])
     requires { table_numbers ≤ length table.old }
     ensures { table.new ≡ rows ++ drop table_numbers table.old }
 {
-    let mut j = 0;
-    while j < Spans::NUMBERS {
-        table[j] = rows[j];
-        j = j + 1;
-    }
+    table[..Spans::NUMBERS].copy_from_slice(&rows);
 }
 
 // The answer that tells the steps, refused by 14 where they are too many to tell. Of an accepted pattern and a line within the limits they never are.
@@ -49,17 +44,8 @@ pub fn told(matched: bool, steps: u32) -> Answer
 }
 
 // Refusals 11 and 12, else the machine's answer, its rows in the table.
-fn finish(
-    pattern: &[u8],
-    code: &[u16],
-    searches: bool,
-    places: usize,
-    depth: usize,
-    line: &[u8],
-    table: &mut [u16],
-) -> Answer
-    requires { Ready pattern.now code.now searches places depth }
-    ensures { Answers searches pattern.now line.now table.old result table.new }
+fn finish(machine: Machine, line: &[u8], table: &mut [u16]) -> Answer
+    ensures { Answers machine.entry.searches machine.entry.pattern.now line.now table.old result table.new }
 {
     if Line::BYTES < line.len() {
         return Answer::Refused {
@@ -73,10 +59,9 @@ fn finish(
             place: 0,
         };
     }
-    let ran = machine::find(pattern, code, searches, places, depth, line);
-    let rows = ran.rows;
-    fill(table, rows);
-    told(ran.matched, ran.steps)
+    let ran = machine.find(line);
+    fill(table, ran.rows.unwrap_or(Spans::absent_table()));
+    told(ran.rows.is_some(), ran.steps)
 }
 
 // A whole match or a search: refusals 1 to 8, then the rest.
@@ -90,7 +75,16 @@ fn call(pattern: &[u8], searches: bool, line: &[u8], table: &mut [u16]) -> Answe
             places,
             depth,
             groups: _,
-        } => finish(pattern, &code, searches, places, depth, line, table),
+        } => {
+            let machine = Machine {
+                pattern,
+                code: &code,
+                searches,
+                places,
+                depth,
+            };
+            finish(machine, line, table)
+        }
     }
 }
 

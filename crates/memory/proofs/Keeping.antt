@@ -14,8 +14,10 @@ use Rattle.paper.specs.Limits.{line_bytes}
 use Rattle.paper.specs.Tables.{place_numbers}
 use Rattle.machine.specs.declared.Built.{Built}
 use Rattle.machine.specs.declared.Built.TheVariants.{Refused, Machine}
-use Rattle.machine.specs.Machine.{Ready, Runnable, Builds}
-use Rattle.machine.proofs.Wiring.{ready_places, ready_pairs, ready_runs}
+use Rattle.machine.specs.declared.scratch.Scratch.{Scratch}
+use Rattle.machine.specs.Machine.{Ready, Builds}
+use Rattle.machine.specs.Scratch.{Runnable}
+use Rattle.machine.proofs.Wiring.{ready_places, ready_pairs}
 use Rattle.memory.specs.Memory.{head_numbers, places_in, depth_in, searches_in, machine_numbers, scratch_numbers, memories, shortest, MachineOf, Holds, BuildsIn}
 
 -- the memory with a table put behind its head
@@ -101,17 +103,23 @@ ready_behind {pattern} machine {searches} {places} {deep} m =
     subst (λ (l : List ℕ). Ready pattern l searches places deep) (sym (all_behind machine)) m
 
 -- four memories of which the shortest is long enough are scratch for it
-pub ready_in : {pattern code line : List ℕ} {searches : Bool} {places deep : ℕ} (seen taken lists pending : List ℕ)
-    → Ready pattern code searches places deep → length line ≤ line_bytes → scratch_numbers ≤ shortest (memories seen taken lists pending)
-    → Runnable pattern code line searches places deep 0 seen taken lists pending
-ready_in seen taken lists pending m short room =
-    let front = min (length seen) (length taken) in
-    let back = min (length lists) (length pending) in
-    let front_long : scratch_numbers ≤ front = omega (arith, min-le_left front back) in
-    let back_long : scratch_numbers ≤ back = omega (arith, min-le_right front back) in
-    ready_runs m short (record {
-      seen_long = omega (arith, ready_pairs m, min-le_left (length seen) (length taken));
-      taken_long = omega (arith, ready_places m, min-le_right (length seen) (length taken));
-      lists_long = omega (arith, ready_places m, min-le_left (length lists) (length pending));
-      pending_long = omega (arith, ready_places m, min-le_right (length lists) (length pending));
-    })
+pub ready_in : {pattern code line : List ℕ} {searches : Bool} {places deep : ℕ} (scratch : Scratch)
+    → Ready pattern code searches places deep → length line ≤ line_bytes
+    → scratch_numbers ≤ shortest (memories scratch.seen.now scratch.taken.now scratch.lists.now scratch.pending.now) → Runnable places deep line 0 scratch
+ready_in scratch m short room =
+    let seen = length scratch.seen.now in
+    let taken = length scratch.taken.now in
+    let lists = length scratch.lists.now in
+    let pending = length scratch.pending.now in
+    let front_long : scratch_numbers ≤ min seen taken = omega (arith, min-le_left (min seen taken) (min lists pending)) in
+    let back_long : scratch_numbers ≤ min lists pending = omega (arith, min-le_right (min seen taken) (min lists pending)) in
+    record {
+      short = short;
+      starts = omega arith;
+      roomy = record {
+        seen_long = omega (arith, ready_pairs m, min-le_left seen taken);
+        taken_long = omega (arith, ready_places m, min-le_right seen taken);
+        lists_long = omega (arith, ready_places m, min-le_left lists pending);
+        pending_long = omega (arith, ready_places m, min-le_right lists pending);
+      };
+    }

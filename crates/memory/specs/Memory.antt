@@ -6,7 +6,8 @@ use Rattle.paper.specs.Pattern.{groups}
 use Rattle.paper.specs.Check.{pattern_of}
 use Rattle.paper.specs.Tables.{place_numbers}
 use Rattle.laying.specs.Room.{most_places, table_room}
-use Rattle.machine.specs.Machine.{Ready, pending_numbers}
+use Rattle.machine.specs.Machine.{Ready}
+use Rattle.machine.specs.Scratch.{pending_numbers}
 use Rattle.matcher.specs.Promise.{Answers}
 use Rattle.matcher.specs.declared.Answer as matching
 use Rattle.matcher.specs.declared.Answer.TheVariants as matched

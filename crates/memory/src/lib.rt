@@ -4,7 +4,7 @@
 ghost use Rattle.std.specs.Prelude.{◌≡◌, ◌≤◌, min, length};
 ghost use Rattle.memory.specs.Memory.{machine_numbers, scratch_numbers, memories, shortest, MachineOf, BuildsIn, RunsIn};
 
-use machine::Built;
+use machine::{Built, Machine, Scratch};
 use matcher::Answer;
 use pattern::{Line, Refusal, Spans};
 
@@ -67,36 +67,27 @@ pub fn run_in(
             place: 0,
         };
     }
-    let places = machine[0] as usize;
-    let depth = machine[1] as usize;
-    let searches = machine[2] == 1;
-    let ran = machine::find_in(
+    let built = Machine {
         pattern,
-        &machine[Memory::HEAD..],
-        searches,
-        places,
-        depth,
-        line,
+        code: &machine[Memory::HEAD..],
+        searches: machine[2] == 1,
+        places: usize::from(machine[0]),
+        depth: usize::from(machine[1]),
+    };
+    let mut scratch = Scratch {
         seen,
         taken,
         lists,
         pending,
-    );
-    let rows = ran.rows;
-    matcher::fill(table, rows);
-    matcher::told(ran.matched, ran.steps)
-}
-
-// The lesser of two lengths.
-fn least(a: usize, b: usize) -> usize
-    ensures { result ≡ min a b }
-{
-    if a < b { a } else { b }
+    };
+    let ran = built.find_in(line, &mut scratch);
+    matcher::fill(table, ran.rows.unwrap_or(Spans::absent_table()));
+    matcher::told(ran.rows.is_some(), ran.steps)
 }
 
 // The least of the lengths of the four memories that a machine is run in.
 pub fn least_of_four(seen: usize, taken: usize, lists: usize, pending: usize) -> usize
     ensures { result ≡ min (min seen taken) (min lists pending) }
 {
-    least(least(seen, taken), least(lists, pending))
+    seen.min(taken).min(lists.min(pending))
 }

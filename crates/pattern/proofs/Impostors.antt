@@ -5,7 +5,9 @@ use mathlib.Core.Bool.{Bool, true, false, true≢false}
 use mathlib.Core.List.{List, [], ◌∷◌}
 use Rattle.paper.specs.Refusal.{Checked, refused, accepted}
 use Rattle.paper.specs.Check.{Numbers}
-use Rattle.pattern.specs.declared.Answer.TheVariants.{Refused, Accepted}
+use Rattle.std.specs.Prelude.{Ok, Err}
+use Rattle.pattern.specs.declared.Refused.{Refused}
+use Rattle.pattern.specs.declared.Numbers as declared
 use Rattle.pattern.specs.Answer.{Checks}
 
 abbrev is_accepted : Checked Numbers → Bool
@@ -16,9 +18,9 @@ is_accepted (accepted numbers) = true
 abbrev a : List ℕ
 a = 2 ∷ 0 ∷ 2 ∷ 0 ∷ 97 ∷ 97 ∷ []
 
-pub refuses_all : (number place : ℕ) → Checks a (Refused number place) → ⊥
-refuses_all number place p = true≢false (sym (ap is_accepted p.answer))
+pub refuses_all : (r : Refused) → Checks a (Err r) → ⊥
+refuses_all r p = true≢false (sym (ap is_accepted p.answer))
 
 -- no bytes are no pattern
-pub accepts_all : (places depth groups : ℕ) → Checks [] (Accepted places depth groups) → ⊥
-accepts_all places depth groups p = true≢false (ap is_accepted p.answer)
+pub accepts_all : (numbers : declared.Numbers) → Checks [] (Ok numbers) → ⊥
+accepts_all numbers p = true≢false (ap is_accepted p.answer)

@@ -1,75 +1,45 @@
 -- How the walk's answers are put together: from what is found inside a record to what is found in it, one law a way out of each function.
+use mir.Val.{bool_byte}
 use Prim.Native.Nat.{ℕ, zero, suc, ◌+◌, ◌-◌, ◌≤◌, ◌<◌, max}
 use mathlib.Core.Path.{◌≡◌, refl, ap, sym, ◌∙◌}
 use mathlib.Core.Bool.{Bool, true, false, cond}
 use mathlib.Core.List.{List, [], ◌∷◌}
 use mathlib.Core.Logic.{⊎_elim}
-use native.Mathlib.Nat.{eq-zero-or-pos, add-zero}
-use native.Mathlib.Numerals.{add-one}
+use native.Mathlib.Nat.{eq-zero-or-pos}
 use native.Mathlib.Omega.{arith}
 use lib.Dec.{ltb, eqb}
 use lib.ListN.{length}
 use borrow.Author.Tests.{le-leb, lt-leb, lt-ltb, le-ltb, eq-eqb, ne_eqb}
-use Rattle.paper.specs.Limits.{pattern_bytes, pattern_levels, pattern_groups, pattern_places}
-use Rattle.paper.specs.Refusal.{Checked, refused, accepted, ◌>>=◌, ◌>>◌, holds, broken_record, unknown_kind, too_deep, too_many_groups, repeat_wrong, set_wrong}
-use Rattle.paper.specs.Pattern.{Mode, Upper, Pattern, Members, places, depth, groups, count, places_of_all, depth_of_all, groups_of_all}
+use Rattle.std.specs.Prelude.{Result, Ok, Err}
+use Rattle.paper.specs.Limits.{pattern_groups, pattern_places}
+use Rattle.paper.specs.Refusal.{Checked, refused, accepted, ◌>>=◌, ◌>>◌, holds, broken_record, unknown_kind, too_deep, too_many_groups, repeat_wrong}
+use Rattle.paper.specs.Pattern.{Pattern, Members, places, depth, groups, count, places_of_all, depth_of_all, groups_of_all}
 use Rattle.paper.specs.Pattern.Pattern.{bytes, group, sequence, alternation, repeat}
 use Rattle.paper.specs.Layout.{Kind, nothing_kind, empty_kind, bytes_kind, group_kind, sequence_kind, alternation_kind, repeat_kind, kinds, kind_number}
 use Rattle.paper.specs.Check.{Walk, number_at, body_length, body_start, body_end, kind_at, kind_among, bare, byte_set, part, set_right, ranges_of, body, single, members_from, at_least_two, walk_record, repeat_numbers_right, upper_of, mode_of, repeat_head}
-use Rattle.pattern.specs.Walk.{capped, optional_passes, pass_places, places_in, depth_in, groups_in, told, told_all, leaf_of, group_of, repeat_of, several_of, Within, AllWithin, Tells, TellsAll}
+use Rattle.pattern.specs.declared.Refusal.{Refusal}
+use Rattle.pattern.specs.declared.Refusal.TheVariants.{BrokenRecord, SetWrong}
+use Rattle.pattern.specs.declared.Refused.{Refused}
 use Rattle.pattern.specs.declared.walk.Walked.{Walked}
-use Rattle.pattern.specs.declared.walk.Walked.TheVariants.{Refused, Record}
-use Rattle.pattern.specs.declared.walk.Several.{Several}
-use Rattle.pattern.specs.declared.walk.Several.TheVariants.{Fault, Members as Some}
+use Rattle.pattern.specs.declared.walk.Members as declared
+use Rattle.pattern.specs.Refusals.{number_of}
+use Rattle.pattern.specs.Walk.{capped, optional_passes, pass_places, places_in, depth_in, groups_in, leaf_of, members_of, several_found, Counts, CountsAll, Tells}
 use Rattle.pattern.proofs.Counting.{capped_add, capped_passes, repeat_passes, optional_passes_law}
 
--- ---- what an answer tells
-
--- a refusal is told as it is
-pub refusal : {stop levels end before number place : ℕ} {found : Checked Pattern} → found ≡ refused number place
-    → Tells stop levels end before found (Refused number place)
-refusal {end = end} {before = before} e = record { answer = sym (ap (told end before) e); within = tt }
-
--- the tree behind a record's answer
-pub record Found (end before : ℕ) (found : Checked Pattern) (after counted deep total : ℕ) : Type 0 where
-  pub tree : Pattern
-  pub is : found ≡ accepted tree
-  pub ends : after ≡ end
-  pub places_right : counted ≡ capped (places tree)
-  pub depth_right : deep ≡ depth tree
-  pub groups_right : total ≡ before + groups tree
-
--- there is such a tree
-pub tree_of : {end before after counted deep total : ℕ} (found : Checked Pattern) → Record after counted deep total ≡ told end before found
-    → Found end before found after counted deep total
-tree_of (accepted e) q = record { tree = e; is = refl; ends = cc; places_right = cc; depth_right = cc; groups_right = cc }
-tree_of (refused number place) q = let z : ◌≡◌ {A = ℕ} 0 1 = cc in absurd (omega arith)
-
--- the refusal behind a refusal's answer
-pub fault_of : (end before : ℕ) {number place : ℕ} (found : Checked Pattern) → Refused number place ≡ told end before found → found ≡ refused number place
-fault_of end before (accepted e) q = let z : ◌≡◌ {A = ℕ} 0 1 = cc in absurd (omega arith)
-fault_of end before (refused number place) q = cc
-
--- more room does not hurt
-pub wider : {stop stop' levels levels' : ℕ} (r : Walked) → stop ≤ stop' → levels ≤ levels' → Within stop levels r → Within stop' levels' r
-wider (Refused number place) s l w = tt
-wider (Record end places depth groups) s l w = omega arith
-
--- the bounds that the counting asks for
-pub bounded_record : (end left : ℕ) (w : Walked) → end ≤ pattern_bytes → left < pattern_levels → Within end left w → Within pattern_bytes pattern_levels w
-bounded_record end left w e l = wider w e (omega arith)
-
--- and those that it asks for of several records
-pub bounded_members : (left : ℕ) (w : Several) → left < pattern_levels → AllWithin left w → AllWithin pattern_levels w
-bounded_members left (Fault number place) l h = tt
-bounded_members left (Some n counted deep total) l h = omega arith
-
 -- an answer for the same thing found, with more room
-pub passed_on : {stop stop' levels levels' end end' before : ℕ} {found found' : Checked Pattern} {r : Walked} → stop ≤ stop' → levels ≤ levels'
+pub passed_on : {stop stop' levels levels' end end' : ℕ} (before : ℕ) {found found' : Checked Pattern} (r : Result Walked Refused) → stop ≤ stop' → levels ≤ levels'
     → end ≡ end' → found ≡ found' → Tells stop levels end before found r → Tells stop' levels' end' before found' r
-passed_on {before = before} {found = found} {r = r} s l e f t = record {
-  answer = t.answer ∙ ap (λ (k : ℕ). told k before found) e ∙ ap (told _ before) f;
-  within = wider r s l t.within;
+passed_on before (Err e) s l q f t = sym f ∙ t
+passed_on before (Ok w) s l q f t = record {
+  tree = t.tree;
+  is = sym f ∙ t.is;
+  ends = t.ends ∙ q;
+  places_are = t.places_are;
+  depth_is = t.depth_is;
+  groups_are = t.groups_are;
+  before_stop = omega (arith, t.before_stop);
+  few_levels = omega (arith, t.few_levels);
+  few_groups = t.few_groups;
 }
 
 -- ---- a record's header
@@ -114,13 +84,20 @@ module _ (bs : List ℕ) (at stop before : ℕ) where
 -- ---- records that hold no other
 
 -- the answer for a body that is right or wrong as a whole
-pub leaf_tells : {end before : ℕ} (right : Bool) (number at levels : ℕ) (e : Pattern) → places e ≤ pattern_places → depth e ≡ 0 → groups e ≡ 0
-    → before ≤ pattern_groups → Tells end levels end before (holds right number at >> accepted e) (leaf_of right number at end (places e) before)
-leaf_tells {end} {before} true number at levels e p d g few = record {
-  answer = let c : capped (places e) ≡ places e = omega arith in rw (c, d, g, add-zero before);
-  within = omega arith;
+pub leaf_tells : (end before : ℕ) (right : Bool) (refusal : Refusal) (at levels : ℕ) (e : Pattern) → places e ≤ pattern_places → depth e ≡ 0 → groups e ≡ 0
+    → before ≤ pattern_groups → Tells end levels end before (holds right (number_of refusal) at >> accepted e) (leaf_of right refusal at end (places e) before)
+leaf_tells end before true refusal at levels e p d g few = record {
+  tree = e;
+  is = refl;
+  ends = refl;
+  places_are = omega arith;
+  depth_is = sym d;
+  groups_are = omega arith;
+  before_stop = omega arith;
+  few_levels = omega arith;
+  few_groups = few;
 }
-leaf_tells false number at levels e p d g few = record { answer = refl; within = tt }
+leaf_tells end before false refusal at levels e p d g few = refl
 
 -- a body is empty where it ends as it starts
 pub no_body : (start n : ℕ) → eqb start (start + n) ≡ eqb n 0
@@ -132,17 +109,17 @@ no_body start n = ⊎_elim
 -- kinds 0 and 1
 pub bare_tells : {start end before : ℕ} (bs : List ℕ) (at levels : ℕ) (e : Pattern) → start ≡ body_start at → end ≡ body_end bs at
     → places e ≤ pattern_places → depth e ≡ 0 → groups e ≡ 0 → before ≤ pattern_groups
-    → Tells end levels end before (bare e bs at) (leaf_of (eqb start end) broken_record at end (places e) before)
+    → Tells end levels end before (bare e bs at) (leaf_of (eqb start end) BrokenRecord at end (places e) before)
 bare_tells {start} {end} {before} bs at levels e starts ends p d g few =
     let none : eqb start end ≡ eqb (body_length bs at) 0 = rw (starts, ends) (no_body (body_start at) (body_length bs at)) in
-    rw none (leaf_tells (eqb (body_length bs at) 0) broken_record at levels e p d g few)
+    rw none (leaf_tells end before (eqb (body_length bs at) 0) BrokenRecord at levels e p d g few)
 
 -- kind 2
 pub set_tells : {start end before : ℕ} (bs : List ℕ) (at levels : ℕ) → start ≡ body_start at → end ≡ body_end bs at → before ≤ pattern_groups
-    → Tells end levels end before (byte_set bs at) (leaf_of (set_right (part bs start end)) set_wrong at end 1 before)
+    → Tells end levels end before (byte_set bs at) (leaf_of (set_right (part bs start end)) SetWrong at end 1 before)
 set_tells {start} {end} {before} bs at levels starts ends few =
     let whole = part bs (body_start at) (body_end bs at) in
-    rw (starts, ends) (leaf_tells (set_right whole) set_wrong at levels (bytes (ranges_of whole)) (omega arith) refl refl few)
+    rw (starts, ends) (leaf_tells (body_end bs at) before (set_right whole) SetWrong at levels (bytes (ranges_of whole)) (omega arith) refl refl few)
 
 -- ---- a group
 
@@ -151,39 +128,29 @@ module _ (walk : Walk) (bs : List ℕ) (at end left before : ℕ) where
   pub tenth_group : pattern_groups ≤ before → body group_kind walk bs at before ≡ refused too_many_groups at
   tenth_group many = rw (le-ltb before pattern_groups many)
 
-  group_around : (found : Checked Pattern) (w : Walked) → w ≡ told end (before + 1) found → group_of w ≡ told end before (found >>= λ e. accepted (group e))
-  group_around (refused number place) w e = rw e
-  group_around (accepted e) w q =
-      let p : capped (capped (places e) + 2) ≡ capped (2 + places e) = omega arith in
-      let g : before + 1 + groups e ≡ before + suc (groups e) = omega arith in
-      rw (q, p, g)
+  module _ {start : ℕ} (few : before < pattern_groups) (starts : start ≡ body_start at) where
+    -- a fault inside is the fault
+    pub group_fault : {number place : ℕ} → single walk bs at start (before + 1) ≡ refused number place → body group_kind walk bs at before ≡ refused number place
+    group_fault q =
+        let q' : single walk bs at (body_start at) (before + 1) ≡ refused _ _ = rw starts at q in
+        rw (lt-ltb before pattern_groups few, q')
 
-  group_within : (w : Walked) → Within end left w → Within end (left + 1) (group_of w)
-  group_within (Refused number place) h = tt
-  group_within (Record after counted deep total) h = omega arith
-
-  -- a group's answer out of that of the one record inside
-  pub group_tells : {start : ℕ} {w : Walked} → before < pattern_groups → start ≡ body_start at
-      → Tells end left end (before + 1) (single walk bs at start (before + 1)) w → Tells end (left + 1) end before (body group_kind walk bs at before) (group_of w)
-  group_tells {start} {w} few s t = record {
-    answer = group_around (single walk bs at start (before + 1)) w t.answer ∙ rw (s, lt-ltb before pattern_groups few);
-    within = group_within w t.within;
-  }
+    -- a group's answer out of that of the one record inside
+    pub group_counts : {w : Walked} → Counts end left end (before + 1) (single walk bs at start (before + 1)) w
+        → Counts end (left + 1) end before (body group_kind walk bs at before) (record w { places = capped (w.places + 2) })
+    group_counts t = record {
+      tree = group t.tree;
+      is = let q : single walk bs at (body_start at) (before + 1) ≡ accepted t.tree = rw starts at t.is in rw (lt-ltb before pattern_groups few, q);
+      ends = t.ends;
+      places_are = omega (arith, t.places_are);
+      depth_is = t.depth_is;
+      groups_are = omega (arith, t.groups_are);
+      before_stop = t.before_stop;
+      few_levels = omega (arith, t.few_levels);
+      few_groups = t.few_groups;
+    }
 
 -- ---- a repeat
-
-repeat_around : (end before least : ℕ) (upper : Upper) (mode : Mode) (found : Checked Pattern) (w : Walked) → w ≡ told end before found
-    → repeat_of least (optional_passes least upper) w ≡ told end before (found >>= λ e. accepted (repeat least upper mode e))
-repeat_around end before least upper mode (refused number place) w q = rw q
-repeat_around end before least upper mode (accepted e) w q =
-    rw (q, capped_passes least (optional_passes least upper) (places e), repeat_passes least upper (places e), optional_passes_law least upper, add-one (depth e))
-
-repeat_within : (end left least optional : ℕ) (w : Walked) → Within end left w → Within end (left + 1) (repeat_of least optional w)
-repeat_within end left least optional (Refused number place) h = tt
-repeat_within end left least optional (Record after counted deep total) h = judged (ltb 0 optional) where
-  judged : (t : Bool) → Within end (left + 1) (Record after (capped (pass_places least optional counted)) (cond t (deep + 1) deep) total)
-  judged true = omega arith
-  judged false = omega arith
 
 module _ (walk : Walk) (bs : List ℕ) (at end left before : ℕ) where
   -- a body that has not its three numbers is 2
@@ -204,13 +171,39 @@ module _ (walk : Walk) (bs : List ℕ) (at end left before : ℕ) where
     pub wrong_numbers : repeat_numbers_right least most mode ≡ false → body repeat_kind walk bs at before ≡ refused repeat_wrong at
     wrong_numbers e = numbers_judged false e
 
+    -- a fault inside is the fault
+    pub repeat_fault : {number place : ℕ} → repeat_numbers_right least most mode ≡ true → single walk bs at (start + repeat_head) before ≡ refused number place
+        → body repeat_kind walk bs at before ≡ refused number place
+    repeat_fault right q = numbers_judged true right ∙ rw q
+
     -- a repeat's answer out of that of the one record inside
-    pub repeat_tells : {optional : ℕ} {w : Walked} → repeat_numbers_right least most mode ≡ true → optional ≡ optional_passes least (upper_of most)
-        → Tells end left end before (single walk bs at (start + repeat_head) before) w → Tells end (left + 1) end before (body repeat_kind walk bs at before) (repeat_of least optional w)
-    repeat_tells {optional} {w} right o t = record {
-      answer = rw o (repeat_around end before least (upper_of most) (mode_of mode) (single walk bs at (start + repeat_head) before) w t.answer) ∙ sym (ap (told end before) (numbers_judged true right));
-      within = repeat_within end left least optional w t.within;
-    }
+    pub repeat_counts : {optional more : ℕ} {w : Walked} → repeat_numbers_right least most mode ≡ true → optional ≡ optional_passes least (upper_of most)
+        → more ≡ bool_byte (ltb 0 optional) → Counts end left end before (single walk bs at (start + repeat_head) before) w
+        → Counts end (left + 1) end before (body repeat_kind walk bs at before)
+        (record w { places = capped (pass_places least optional w.places); depth = w.depth + more })
+    repeat_counts {optional} {more} {w} right o m t =
+        let upper = upper_of most in
+        let q : optional_passes least upper ≡ optional = sym o in
+        let deeper : depth (repeat least upper (mode_of mode) t.tree) ≡ depth t.tree + more = rw (← optional_passes_law least upper, q, m) (level (ltb 0 optional)) in
+        record {
+          tree = repeat least upper (mode_of mode) t.tree;
+          is = numbers_judged true right ∙ rw t.is;
+          ends = t.ends;
+          places_are = rw (t.places_are, o, capped_passes least (optional_passes least upper) (places t.tree), repeat_passes least upper (places t.tree));
+          depth_is = omega (arith, deeper, t.depth_is);
+          groups_are = t.groups_are;
+          before_stop = t.before_stop;
+          few_levels = rw m (one_at_most (ltb 0 optional) t.few_levels);
+          few_groups = t.few_groups;
+        }
+      where
+        level : (b : Bool) → cond b (suc (depth t.tree)) (depth t.tree) ≡ depth t.tree + bool_byte b
+        level true = omega arith
+        level false = omega arith
+
+        one_at_most : (b : Bool) → w.depth ≤ left → w.depth + bool_byte b ≤ left + 1
+        one_at_most true h = omega arith
+        one_at_most false h = omega arith
 
 -- ---- one record inside
 
@@ -233,18 +226,19 @@ module _ (walk : Walk) (bs : List ℕ) (at from end before : ℕ) (ends : end �
       rw (q', eq-eqb (body_end bs from) (body_end bs at) (eq ∙ ends))
 
 -- the answer of the one record inside, where it ends with its holder
-pub single_tells : {after counted deep total : ℕ} (walk : Walk) (bs : List ℕ) (at from end left before : ℕ) → end ≡ body_end bs at
-    → Found (body_end bs from) before (walk from end before) after counted deep total → end ≤ after → Within end left (Record after counted deep total)
-    → Tells end left end before (single walk bs at from before) (Record end counted deep total)
-single_tells {after} {counted} {deep} {total} walk bs at from end left before ends f done w = record {
-  answer = same f.tree f.places_right f.depth_right f.groups_right ∙ sym (ap (told end before) used);
-  within = omega arith;
-} where
-  used : single walk bs at from before ≡ accepted f.tree
-  used = all_used walk bs at from end before ends f.is (omega (arith, f.ends, w))
-
-  same : (e : Pattern) → counted ≡ capped (places e) → deep ≡ depth e → total ≡ before + groups e → Record end counted deep total ≡ told end before (accepted e)
-  same e p d g = rw (p, d, g)
+pub single_counts : (walk : Walk) (bs : List ℕ) (at from end left before : ℕ) {w : Walked} → end ≡ body_end bs at
+    → Counts end left (body_end bs from) before (walk from end before) w → end ≤ w.end → Counts end left end before (single walk bs at from before) w
+single_counts walk bs at from end left before ends t done = record {
+  tree = t.tree;
+  is = all_used walk bs at from end before ends t.is (omega (arith, t.ends, t.before_stop));
+  ends = omega (arith, t.before_stop);
+  places_are = t.places_are;
+  depth_is = t.depth_is;
+  groups_are = t.groups_are;
+  before_stop = t.before_stop;
+  few_levels = t.few_levels;
+  few_groups = t.few_groups;
+}
 
 -- ---- several records inside
 
@@ -269,29 +263,63 @@ abbrev pub joined : Bool → Members → Pattern
 joined false ms = sequence ms
 joined true ms = alternation ms
 
-several_around : (at end before : ℕ) (forks : Bool) (found : Checked (List Pattern)) (w : Several) → w ≡ told_all before found
-    → several_of at end forks w ≡ told end before ((found >>= λ es. at_least_two es at) >>= λ ms. accepted (joined forks ms))
-several_around at end before forks (refused number place) w q = rw q
-several_around at end before forks (accepted []) w q = rw q
-several_around at end before forks (accepted (a ∷ [])) w q = rw q
-several_around at end before true (accepted (a ∷ b ∷ rest)) w q =
-    rw (q, le-ltb (length (a ∷ b ∷ rest)) 2 (omega arith), all_places_law a b rest, all_depth a b rest, all_groups a b rest, all_counted a b rest)
-    (rw (capped_add (places_in (a ∷ b ∷ rest)) (length (a ∷ b ∷ rest) - 1)))
-several_around at end before false (accepted (a ∷ b ∷ rest)) w q =
-    let e : capped (capped (places_in (a ∷ b ∷ rest)) + 0) ≡ capped (places_in (a ∷ b ∷ rest)) = omega arith in
-    rw (q, le-ltb (length (a ∷ b ∷ rest)) 2 (omega arith), all_places_law a b rest, all_depth a b rest, all_groups a b rest, e)
+-- what follows the members is judged by how many they are
+several_law : (forks : Bool) (walk : Walk) (bs : List ℕ) (at before : ℕ)
+    → several_found forks walk bs at before ≡ ((members_of walk bs at before >>= λ es. at_least_two es at) >>= λ ms. accepted (joined forks ms))
+several_law true walk bs at before = refl
+several_law false walk bs at before = refl
 
-several_within : (at end left : ℕ) (forks : Bool) (w : Several) → AllWithin left w → Within end (left + 1) (several_of at end forks w)
-several_within at end left forks (Fault number place) h = tt
-several_within at end left forks (Some n counted deep total) h = judged (ltb n 2) where
-  judged : (t : Bool) → Within end (left + 1) (cond t (Refused broken_record at) (Record end (capped (counted + cond forks (n - 1) 0)) deep total))
-  judged true = tt
-  judged false = omega arith
+module _ (forks : Bool) (walk : Walk) (bs : List ℕ) (at end left before : ℕ) where
+  -- a fault inside is the fault
+  pub several_fault : {number place : ℕ} → members_of walk bs at before ≡ refused number place → several_found forks walk bs at before ≡ refused number place
+  several_fault q = several_law forks walk bs at before ∙ rw q
 
--- a sequence's or an alternation's answer out of that of the records inside
-pub several_tells : (at : ℕ) {end left before : ℕ} {found : Checked (List Pattern)} {w : Several} (forks : Bool) → TellsAll left before found w
-    → Tells end (left + 1) end before ((found >>= λ es. at_least_two es at) >>= λ ms. accepted (joined forks ms)) (several_of at end forks w)
-several_tells at {end} {left} {before} {found} {w} forks t = record {
-  answer = several_around at end before forks found w t.answer;
-  within = several_within at end left forks w t.within;
-}
+  module _ {m : declared.Members} (t : CountsAll left before (members_of walk bs at before) m) where
+    judged : several_found forks walk bs at before ≡ (at_least_two t.trees at >>= λ ms. accepted (joined forks ms))
+    judged = several_law forks walk bs at before ∙ rw t.are
+
+    -- fewer than two are 2 at the holder
+    pub too_few : m.count < 2 → several_found forks walk bs at before ≡ refused broken_record at
+    too_few few = judged ∙ look t.trees t.count_is where
+      look : (es : List Pattern) → m.count ≡ length es → (at_least_two es at >>= λ ms. accepted (joined forks ms)) ≡ refused broken_record at
+      look [] is = refl
+      look (a ∷ []) is = refl
+      look (a ∷ b ∷ rest) is = absurd (omega arith)
+
+    -- a sequence's or an alternation's answer out of that of the records inside
+    pub several_counts : {forked : ℕ} → 2 ≤ m.count → forked ≡ cond forks (m.count - 1) 0
+        → Counts end (left + 1) end before (several_found forks walk bs at before)
+        (record { end = end; places = capped (m.places + forked); depth = m.depth; groups = m.groups })
+    several_counts {forked} enough f = look t.trees t.are t.count_is t.places_are t.depth_is t.groups_are where
+      counted : (forks : Bool) (a b : Pattern) (rest : List Pattern) → m.count ≡ length (a ∷ b ∷ rest) → m.places ≡ capped (places_in (a ∷ b ∷ rest))
+          → forked ≡ cond forks (m.count - 1) 0 → capped (m.places + forked) ≡ capped (places (joined forks (members_from a b rest)))
+      counted true a b rest n p f = rw (p, f, n, all_places_law a b rest, all_counted a b rest) (capped_add (places_in (a ∷ b ∷ rest)) (length (a ∷ b ∷ rest) - 1))
+      counted false a b rest n p f =
+          let e : capped (capped (places_in (a ∷ b ∷ rest)) + 0) ≡ capped (places_in (a ∷ b ∷ rest)) = omega arith in
+          rw (p, f, all_places_law a b rest, e)
+
+      deep : (forks : Bool) (a b : Pattern) (rest : List Pattern) → depth_in (a ∷ b ∷ rest) ≡ depth (joined forks (members_from a b rest))
+      deep true a b rest = sym (all_depth a b rest)
+      deep false a b rest = sym (all_depth a b rest)
+
+      many : (forks : Bool) (a b : Pattern) (rest : List Pattern) → groups_in (a ∷ b ∷ rest) ≡ groups (joined forks (members_from a b rest))
+      many true a b rest = sym (all_groups a b rest)
+      many false a b rest = sym (all_groups a b rest)
+
+      look : (es : List Pattern) → members_of walk bs at before ≡ accepted es → m.count ≡ length es → m.places ≡ capped (places_in es) → m.depth ≡ depth_in es
+          → m.groups ≡ before + groups_in es
+          → Counts end (left + 1) end before (several_found forks walk bs at before)
+          (record { end = end; places = capped (m.places + forked); depth = m.depth; groups = m.groups })
+      look [] is n p d g = absurd (omega arith)
+      look (a ∷ []) is n p d g = absurd (omega arith)
+      look (a ∷ b ∷ rest) is n p d g = record {
+        tree = joined forks (members_from a b rest);
+        is = several_law forks walk bs at before ∙ rw is;
+        ends = refl;
+        places_are = counted forks a b rest n p f;
+        depth_is = d ∙ deep forks a b rest;
+        groups_are = g ∙ ap (λ (n : ℕ). before + n) (many forks a b rest);
+        before_stop = omega arith;
+        few_levels = omega (arith, t.few_levels);
+        few_groups = t.few_groups;
+      }

@@ -1,13 +1,15 @@
 -- What the walk's functions answer, in terms of what `paper`'s walk finds: the tree itself is never built, only its numbers.
-use Rattle.std.specs.Prelude.{ℕ, ◌+◌, ◌-◌, ◌*◌, ◌≤◌, ◌<◌, min, max, ◌≡◌, Bool, true, false, cond, List, [], ◌∷◌, ltb, length}
+use Rattle.std.specs.Prelude.{ℕ, ◌+◌, ◌-◌, ◌*◌, ◌≤◌, min, max, ◌≡◌, Bool, true, false, List, [], ◌∷◌, length, Result, Ok, Err}
 use Rattle.paper.specs.Limits.{pattern_bytes, pattern_levels, pattern_groups, pattern_places}
-use Rattle.paper.specs.Refusal.{Checked, refused, accepted, broken_record}
+use Rattle.paper.specs.Refusal.{Checked, refused, accepted}
 use Rattle.paper.specs.Pattern.{Upper, up_to, no_end, Pattern, places, depth, groups}
-use Rattle.paper.specs.Check.{Walk, body_length, body_start, body_end, walk_all}
+use Rattle.paper.specs.Layout.{sequence_kind, alternation_kind}
+use Rattle.paper.specs.Check.{Walk, body_length, body_start, body_end, body, walk_all}
+use Rattle.pattern.specs.declared.Refusal.{Refusal}
+use Rattle.pattern.specs.declared.Refused.{Refused}
 use Rattle.pattern.specs.declared.walk.Walked.{Walked}
-use Rattle.pattern.specs.declared.walk.Walked.TheVariants.{Refused, Record}
-use Rattle.pattern.specs.declared.walk.Several.{Several}
-use Rattle.pattern.specs.declared.walk.Several.TheVariants.{Fault, Members}
+use Rattle.pattern.specs.declared.walk.Members.{Members}
+use Rattle.pattern.specs.Refusals.{number_of}
 
 -- a count of places up to the limit, which stands for all beyond
 abbrev pub capped : ℕ → ℕ
@@ -35,61 +37,53 @@ abbrev pub groups_in : List Pattern → ℕ
 groups_in [] = 0
 groups_in (e ∷ es) = groups e + groups_in es
 
--- the answer for what was found in one record that ends at `end`, with so many groups before it
-abbrev pub told : ℕ → ℕ → Checked Pattern → Walked
-told end before (refused number place) = Refused number place
-told end before (accepted e) = Record end (capped (places e)) (depth e) (before + groups e)
-
--- the answer for what was found in the records of a holder
-abbrev pub told_all : ℕ → Checked (List Pattern) → Several
-told_all before (refused number place) = Fault number place
-told_all before (accepted es) = Members (length es) (capped (places_in es)) (depth_in es) (before + groups_in es)
-
--- a record that holds no other, refused unless its body is right
-abbrev pub leaf_of : Bool → ℕ → ℕ → ℕ → ℕ → ℕ → Walked
-leaf_of true number at end places before = Record end places 0 before
-leaf_of false number at end places before = Refused number at
-
--- a group's answer out of that of the record inside
-abbrev pub group_of : Walked → Walked
-group_of (Refused number place) = Refused number place
-group_of (Record end places depth groups) = Record end (capped (places + 2)) depth groups
-
--- a repeat's answer out of that of the record inside
-abbrev pub repeat_of : ℕ → ℕ → Walked → Walked
-repeat_of least optional (Refused number place) = Refused number place
-repeat_of least optional (Record end places depth groups) =
-    Record end (capped (pass_places least optional places)) (cond (ltb 0 optional) (depth + 1) depth) groups
-
--- a sequence's or an alternation's answer out of that of the records inside; an alternation has a fork before each member but the last
-abbrev pub several_of : ℕ → ℕ → Bool → Several → Walked
-several_of at end forks (Fault number place) = Refused number place
-several_of at end forks (Members count places depth groups) =
-    cond (ltb count 2) (Refused broken_record at) (Record end (capped (places + cond forks (count - 1) 0)) depth groups)
+-- the answer for a record that holds no other, refused unless its body is right
+abbrev pub leaf_of : Bool → Refusal → ℕ → ℕ → ℕ → ℕ → Result Walked Refused
+leaf_of true refusal at end places before = Ok (record { end = end; places = places; depth = 0; groups = before })
+leaf_of false refusal at end places before = Err (record { refusal = refusal; place = at })
 
 -- what the walk finds in the records that a sequence or an alternation holds
 abbrev pub members_of : Walk → List ℕ → ℕ → ℕ → Checked (List Pattern)
 members_of walk bs at before = walk_all (body_length bs at) walk bs (body_start at) (body_end bs at) before
 
--- the bounds that keep the counting from overflowing
-abbrev pub Within : ℕ → ℕ → Walked → Type 0
-Within stop levels (Refused number place) = Unit {0}
-Within stop levels (Record end places depth groups) = (end ≤ stop) × (places ≤ pattern_places) × (depth ≤ levels) × (groups ≤ pattern_groups)
+-- what it finds in a sequence, or in an alternation, which has a fork before each member but the last
+abbrev pub several_found : Bool → Walk → List ℕ → ℕ → ℕ → Checked Pattern
+several_found false = body sequence_kind
+several_found true = body alternation_kind
 
-abbrev pub AllWithin : ℕ → Several → Type 0
-AllWithin levels (Fault number place) = Unit {0}
-AllWithin levels (Members count places depth groups) =
-    (count ≤ pattern_bytes) × (places ≤ pattern_places) × (depth ≤ levels) × (groups ≤ pattern_groups)
+-- what was counted in one record that ends at `end`, with so many groups before it; and the bounds that keep the counting from overflowing
+pub record Counts (stop levels end before : ℕ) (found : Checked Pattern) (w : Walked) : Type 0 where
+  pub tree : Pattern
+  pub is : found ≡ accepted tree
+  pub ends : w.end ≡ end
+  pub places_are : w.places ≡ capped (places tree)
+  pub depth_is : w.depth ≡ depth tree
+  pub groups_are : w.groups ≡ before + groups tree
+  pub before_stop : w.end ≤ stop
+  pub few_levels : w.depth ≤ levels
+  pub few_groups : w.groups ≤ pattern_groups
 
 -- what the walk of a record that stands before `stop` promises
-pub record Tells (stop levels end before : ℕ) (found : Checked Pattern) (r : Walked) : Type 0 where
-  pub answer : r ≡ told end before found
-  pub within : Within stop levels r
+abbrev pub Tells : ℕ → ℕ → ℕ → ℕ → Checked Pattern → Result Walked Refused → Type 0
+Tells stop levels end before found (Ok w) = Counts stop levels end before found w
+Tells stop levels end before found (Err e) = found ≡ refused (number_of e.refusal) e.place
+
+-- what was counted in the records of a holder
+pub record CountsAll (levels before : ℕ) (found : Checked (List Pattern)) (m : Members) : Type 0 where
+  pub trees : List Pattern
+  pub are : found ≡ accepted trees
+  pub count_is : m.count ≡ length trees
+  pub places_are : m.places ≡ capped (places_in trees)
+  pub depth_is : m.depth ≡ depth_in trees
+  pub groups_are : m.groups ≡ before + groups_in trees
+  pub few_members : m.count ≤ pattern_bytes
+  pub few_levels : m.depth ≤ levels
+  pub few_groups : m.groups ≤ pattern_groups
 
 -- what the walk of a holder's records promises
-pub record TellsAll (levels before : ℕ) (found : Checked (List Pattern)) (r : Several) : Type 0 where
-  pub answer : r ≡ told_all before found
-  pub within : AllWithin levels r
+abbrev pub TellsAll : ℕ → ℕ → Checked (List Pattern) → Result Members Refused → Type 0
+TellsAll levels before found (Ok m) = CountsAll levels before found m
+TellsAll levels before found (Err e) = found ≡ refused (number_of e.refusal) e.place
 
 -- what the walk needs where it looks for a record: an offset in a holder that ends at `stop`, with so many levels left and so many groups before it
 pub record Held (bs : List ℕ) (at stop levels before : ℕ) : Type 0 where
@@ -97,12 +91,4 @@ pub record Held (bs : List ℕ) (at stop levels before : ℕ) : Type 0 where
   pub inside : stop ≤ length bs
   pub few_bytes : length bs ≤ pattern_bytes
   pub few_levels : levels ≤ pattern_levels
-  pub few_groups : before ≤ pattern_groups
-
--- what it needs inside a record: a record at `at` whose body ends at `end`, with so many levels left inside it and so many groups before it
-pub record Room (bs : List ℕ) (at end left before : ℕ) : Type 0 where
-  pub ends : end ≡ body_end bs at
-  pub inside : end ≤ length bs
-  pub few_bytes : length bs ≤ pattern_bytes
-  pub few_levels : left < pattern_levels
   pub few_groups : before ≤ pattern_groups

@@ -1,5 +1,5 @@
 // Counting places. A record's places are counted up to the pattern's limit, and that number stands for all beyond: with the accepting place they are too many.
-ghost use Rattle.std.specs.Prelude.{◌≡◌, ℕ, ◌+◌, ◌*◌, ◌^◌, ◌≤◌, ◌<◌, max};
+ghost use Rattle.std.specs.Prelude.{◌≡◌, ℕ, ◌+◌, ◌*◌, ◌^◌, ◌≤◌, ◌<◌};
 ghost use Rattle.paper.specs.Limits.{pattern_places, repeat_count};
 ghost use Rattle.paper.specs.Check.{upper_of, repeat_numbers_right};
 ghost use Rattle.pattern.specs.Walk.{capped, pass_places, optional_passes};
@@ -11,11 +11,7 @@ pub fn sum(a: usize, b: usize) -> usize
     requires { a + b < 2 ^ 64 }
     ensures { result ≡ capped (a + b) }
 {
-    if a + b < Pattern::PLACES {
-        a + b
-    } else {
-        Pattern::PLACES
-    }
+    (a + b).min(Pattern::PLACES)
 }
 
 // The places of a repeat's passes. A count at the limit stays there unless there is no pass at all, as in a repeat of 0 to 0.
@@ -36,19 +32,10 @@ pub fn passes(least: usize, optional: usize, inner: usize) -> usize
 pub fn right(least: usize, most: usize, mode: usize) -> bool
     ensures { result ≡ repeat_numbers_right least most mode }
 {
-    if Pattern::REPEAT_COUNT < least {
-        return false;
-    }
-    if most < least {
-        return false;
-    }
-    if Pattern::LAZY < mode {
-        return false;
-    }
-    if most <= Pattern::REPEAT_COUNT {
-        return true;
-    }
-    most == Pattern::NO_UPPER_END
+    least <= Pattern::REPEAT_COUNT
+        && (most <= Pattern::REPEAT_COUNT || most == Pattern::NO_UPPER_END)
+        && least <= most
+        && mode <= Pattern::LAZY
 }
 
 // The optional passes of a repeat that have places: one where there is no upper end.
@@ -61,11 +48,4 @@ pub fn optional(least: usize, most: usize) -> usize
     } else {
         most - least
     }
-}
-
-// The greater of two depths.
-pub fn deeper(a: usize, b: usize) -> usize
-    ensures { result ≡ max a b }
-{
-    if a < b { b } else { a }
 }

@@ -10,13 +10,12 @@ ghost use Rattle.paper.specs.Limits.{pattern_bytes, pattern_levels, pattern_grou
 ghost use Rattle.paper.specs.Refusal.{pattern_too_long, broken_record, unknown_kind, set_wrong, repeat_wrong, too_deep, too_many_groups, too_many_places, template_wrong, reference_too_high, line_too_long, table_too_short, output_too_long, too_many_steps, row_wrong, no_such_piece};
 ghost use Rattle.paper.specs.Pattern.{greedy, lazy};
 ghost use Rattle.paper.specs.Layout.{kinds, kind_number, mode_number};
+ghost use Rattle.paper.specs.Match.{line_and_table};
 ghost use Rattle.paper.specs.Rows.{no_rows};
 ghost use Rattle.paper.specs.Tables.{fork_place, open_place, close_place, begin_place, begin_optional_place, end_place, set_place, range_place, stop_place, accept_place};
 ghost use Rattle.pattern.specs.Answer.{Checks};
 ghost use Rattle.pattern.specs.Kinds.{IsKind};
-ghost use Rattle.pattern.specs.Refusals.{number_of};
-
-use walk::Walked;
+ghost use Rattle.pattern.specs.Refusals.{number_of, checked_of};
 
 // The limits of a pattern.
 #[derive(Clone, Copy)]
@@ -237,7 +236,7 @@ impl Refusal {
 
     // This refusal, found at a place.
     pub fn at(self, place: usize) -> Refused
-        ensures { (result.refusal ≡ self) × (result.place ≡ place) }
+        ensures { result ≡ record { refusal = self; place = place } }
     {
         Refused {
             refusal: self,
@@ -278,57 +277,45 @@ pub struct Refused {
     pub place: usize,
 }
 
-// What checking a pattern answers.
-#[derive(Clone, Copy)]
-pub enum Answer {
-    Refused {
-        number: usize,
-        place: usize,
-    },
-    Accepted {
-        places: usize,
-        depth: usize,
-        groups: usize,
-    },
+// The numbers of a pattern: its places with the accepting one, its depth and its groups.
+#[derive(Clone, Copy, Debug, PartialEq, Eq)]
+pub struct Numbers {
+    pub places: usize,
+    pub depth: usize,
+    pub groups: usize,
 }
 
 // Refusals 1 to 8 in their order, or the pattern's places, depth and groups.
-pub fn check(pattern: &[u8]) -> Answer
+pub fn check(pattern: &[u8]) -> Result<Numbers, Refused>
     ensures { Checks pattern.now result }
 {
     let long = pattern.len();
     if Pattern::BYTES < long {
-        return Answer::Refused {
-            number: Refusal::PatternTooLong as usize,
-            place: 0,
-        };
+        return Err(Refusal::PatternTooLong.at(0));
     }
-    match walk::any_record(pattern, 0, long, Pattern::LEVELS, 0) {
-        Walked::Refused(number, place) => Answer::Refused { number, place },
-        Walked::Record {
-            end,
-            places,
-            depth,
-            groups,
-        } => {
-            if end < long {
-                return Answer::Refused {
-                    number: Refusal::BrokenRecord as usize,
-                    place: end,
-                };
-            }
-            if places < Pattern::PLACES {
-                Answer::Accepted {
-                    places: places + 1,
-                    depth,
-                    groups,
-                }
-            } else {
-                Answer::Refused {
-                    number: Refusal::TooManyPlaces as usize,
-                    place: 0,
-                }
-            }
-        }
+    let found = walk::any_record(pattern, 0, long, Pattern::LEVELS, 0)?;
+    if found.end < long {
+        return Err(Refusal::BrokenRecord.at(found.end));
     }
+    if Pattern::PLACES <= found.places {
+        return Err(Refusal::TooManyPlaces.at(0));
+    }
+    Ok(Numbers {
+        places: found.places + 1,
+        depth: found.depth,
+        groups: found.groups,
+    })
+}
+
+// Refusals 11 and 12 in their order: a line that is too long, and a table that is too short for a span table.
+pub fn lent(line: &[u8], table: &[u16]) -> Result<(), Refused>
+    ensures { checked_of (λ (u : Unit {0}). u) result ≡ line_and_table line.now table.now }
+{
+    if Line::BYTES < line.len() {
+        return Err(Refusal::LineTooLong.at(0));
+    }
+    if table.len() < Spans::NUMBERS {
+        return Err(Refusal::TableTooShort.at(0));
+    }
+    Ok(())
 }

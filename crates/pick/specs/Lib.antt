@@ -1,3 +1,2 @@
--- What the functions of the job and of its window ask and promise.
-pub mod Job
+-- What the functions of the job's window ask and promise.
 pub mod Window

@@ -1,16 +1,6 @@
--- The window of a buffer through which a job is read, from one offset up to another: what becomes of its bytes.
-use Rattle.std.specs.Prelude.{ℕ, ◌≤◌, ◌-◌, ◌≡◌, List, length, take}
-use Rattle.paper.specs.Check.{part}
+-- The bytes of a job that are read and not yet used: what becomes of them by reading on.
+use Rattle.std.specs.Prelude.{ℕ, ◌≡◌, List, length, take}
 
--- the window's bytes stand at the buffer's start
-pub record Moved (old : List ℕ) (start end : ℕ) (new : List ℕ) (from to : ℕ) : Type 0 where
-  pub first : from ≡ 0
-  pub long : to ≡ end - start
-  pub same : part new from to ≡ part old start end
-
--- the bytes that the window had are the first that it has, and it lies inside the buffer
-pub record Grown (old : List ℕ) (start end : ℕ) (new : List ℕ) (from to : ℕ) : Type 0 where
-  pub forward : from ≤ to
-  pub inside : to ≤ length old
-  pub longer : end - start ≤ to - from
-  pub kept : take (end - start) (part new from to) ≡ part old start end
+-- the bytes that were there are the first that are there
+abbrev pub Grown : List ℕ → List ℕ → Type 0
+Grown old new = take (length old) new ≡ old

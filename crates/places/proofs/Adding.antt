@@ -4,6 +4,7 @@ use Prim.Native.Nat.{ℕ, zero, suc, ◌+◌, ◌-◌, ◌≤◌, ◌<◌}
 use mathlib.Core.Path.{◌≡◌, refl, sym, ap, subst, ◌∙◌}
 use mathlib.Core.Bool.{Bool, true, false, cond}
 use mathlib.Core.List.{List, [], ◌∷◌}
+use mathlib.Core.Logic.{◌⊎◌, inl, inr}
 use native.Mathlib.Nat.{mul-le-mul_right, min-eq_left}
 use native.Mathlib.Omega.{arith}
 use borrow.Author.Tests.{ne_eqb, lt-ltb}
@@ -20,7 +21,9 @@ use Rattle.paper.proofs.layout.RepeatBody.{upper_of_number}
 use Rattle.paper.proofs.layout.MemberList.{list_of}
 use Rattle.pattern.specs.Walk.{capped, places_in, groups_in}
 use Rattle.pattern.proofs.Counting.{repeat_passes, Bounded, bounded_counts}
-use Rattle.places.specs.Sums.{inside_start, own_places, OwnPlaces, own_groups, Counting, Summed, Counted}
+use Rattle.pattern.specs.declared.Kind.{Kind}
+use Rattle.pattern.specs.declared.Kind.TheVariants.{Nothing, Empty, Bytes}
+use Rattle.places.specs.Sums.{number_of, KindAt, inside_start, own_places, OwnPlaces, own_groups, Counting, Summed, Counted}
 use Rattle.places.specs.Standing.{Passes, Stands, AllStand, Row}
 
 -- the records inside a record
@@ -198,6 +201,20 @@ pub record First (bs : List ℕ) (at stop : ℕ) : Type 0 where
   pub short : length bs ≤ pattern_bytes
   pub few : groups tree ≤ 10
 
+-- every record that stands has a kind's number
+pub kind_known : (e : Pattern) (bs : List ℕ) (at : ℕ) → Stands bs at e → kind_at bs at ≤ 6
+kind_known nothing bs at h = omega (arith, h)
+kind_known empty bs at h = omega (arith, h)
+kind_known (bytes ranges) bs at h = omega (arith, h.0)
+kind_known (group e) bs at h = omega (arith, h.0)
+kind_known (sequence ms) bs at h = omega (arith, h.0)
+kind_known (alternation ms) bs at h = omega (arith, h.0)
+kind_known (repeat least upper mode e) bs at h = omega (arith, h.0)
+
+-- the kind that was found is the record's
+pub first_kind : {bs : List ℕ} {at stop : ℕ} (kind : Kind) → First bs at stop → KindAt bs at kind → number_of kind ≡ kind_at bs at
+first_kind {bs} {at} kind f known = known (kind_known f.tree bs at f.stand)
+
 -- what is summed so far, beside the records from here on, is the sum of all
 pub record Rest (bs : List ℕ) (at stop : ℕ) (all : List Pattern) (p g k : ℕ) : Type 0 where
   pub records : List Pattern
@@ -306,19 +323,32 @@ adding_all {bs} {at} {stop} {from} {p} {g} {k} a le =
     done all (e ∷ es) h ps gs ks = absurd (omega (arith, row_long es bs _ stop h.1))
 
 -- a record without records inside, by itself
-pub alone_counted : {bs : List ℕ} {at stop kind own q : ℕ} → Counting bs at stop → body_end bs at ≡ stop → kind ≡ kind_at bs at → kind < 3
-    → own ≡ own_places bs kind (body_start at) 0 0 → q ≡ capped (0 + own) → Counted bs at stop q 0 1
-alone_counted {bs} {at} {stop} {kind} {own} {q} m ends ek leaf eo cut =
+pub alone_counted : {bs : List ℕ} {at stop own : ℕ} {kind : Kind} → Counting bs at stop → body_end bs at ≡ stop → KindAt bs at kind
+    → (kind ≡ Nothing) ⊎ (kind ≡ Empty) ⊎ (kind ≡ Bytes) → own ≡ own_places bs (number_of kind) (body_start at) 0 0 → Counted bs at stop own 0 1
+alone_counted {bs} {at} {stop} {own} {kind} m ends known leaf eo =
     let some : at < stop = omega (arith, ends) in
-    let few : ltb (kind_at bs at) 3 ≡ true = lt-ltb (kind_at bs at) 3 (omega (arith, ek)) in
+    let f = first m (adding_none m) some in
+    let ek : number_of kind ≡ kind_at bs at = first_kind kind f known in
+    let few : ltb (kind_at bs at) 3 ≡ true = lt-ltb (kind_at bs at) 3 (omega (arith, ek, leaf_low leaf)) in
     let at_end_law : inside_start (kind_at bs at) (body_start at) (body_end bs at) ≡ body_end bs at =
     ap (λ (b : Bool). cond b (body_end bs at) (cond (ltb (kind_at bs at) 6) (body_start at) (body_start at + repeat_head))) few in
-    let none = adding_all (adding_none (first_inside (first m (adding_none m) some))) (omega (arith, at_end_law)) in
-    let same : own ≡ own_places bs (kind_at bs at) (body_start at) 0 0 = eo ∙ ap (λ (k : ℕ). own_places bs k (body_start at) 0 0) ek in
-    let own-cut : q ≡ capped (0 + own_places bs (kind_at bs at) (body_start at) 0 0) = cut ∙ ap (λ (n : ℕ). capped (0 + n)) same in
-    let group-less : own_groups (kind_at bs at) 0 ≡ 0 = ap (λ (b : Bool). cond b 1 0) (ne_eqb (kind_at bs at) 3 (λ e. omega (arith, ek))) in
+    let none = adding_all (adding_none (first_inside f)) (omega (arith, at_end_law)) in
+    let cut : own ≡ capped (0 + own_places bs (kind_at bs at) (body_start at) 0 0) =
+    leaf_cut leaf eo ∙ ap (λ (k : ℕ). capped (0 + own_places bs k (body_start at) 0 0)) ek in
+    let group-less : own_groups (kind_at bs at) 0 ≡ 0 = ap (λ (b : Bool). cond b 1 0) (ne_eqb (kind_at bs at) 3 (λ e. omega (arith, ek, leaf_low leaf))) in
     let no-groups : 0 + own_groups (kind_at bs at) 0 ≡ 0 = omega (arith, group-less) in
-    subst (λ (g : ℕ). Counted bs at stop q g 1) no-groups (adding_all (adding_more m (adding_none m) some none own-cut) (omega (arith, ends)))
+    subst (λ (g : ℕ). Counted bs at stop own g 1) no-groups (adding_all (adding_more m (adding_none m) some none cut) (omega (arith, ends)))
+  where
+    leaf_low : (kind ≡ Nothing) ⊎ (kind ≡ Empty) ⊎ (kind ≡ Bytes) → number_of kind < 3
+    leaf_low (inl is) = omega (arith, ap number_of is)
+    leaf_low (inr (inl is)) = omega (arith, ap number_of is)
+    leaf_low (inr (inr is)) = omega (arith, ap number_of is)
+
+    leaf_cut : (kind ≡ Nothing) ⊎ (kind ≡ Empty) ⊎ (kind ≡ Bytes) → own ≡ own_places bs (number_of kind) (body_start at) 0 0
+        → own ≡ capped (0 + own_places bs (number_of kind) (body_start at) 0 0)
+    leaf_cut (inl is) e = e ∙ rw is
+    leaf_cut (inr (inl is)) e = e ∙ rw is
+    leaf_cut (inr (inr is)) e = e ∙ rw is
 
 -- what stands inside a record starts behind its header
 pub inside_after : (kind start end : ℕ) → start ≤ end → start ≤ inside_start kind start end

@@ -1,15 +1,16 @@
 -- Building one record, by its kind.
 use Prim.Native.Nat.{ℕ, zero, suc, ◌+◌, ◌-◌, ◌≤◌}
 use mathlib.Core.Path.{◌≡◌, refl, sym, ap, subst, ◌∙◌}
+use mathlib.Core.Bool.{Bool, true, false}
 use mathlib.Core.List.{List}
 use native.Mathlib.Numerals.{add-one}
 use native.Mathlib.Omega.{arith}
-use lib.Dec.{eqb}
 use lib.ListN.{length}
 use Rattle.paper.specs.Pattern.{Range, Pattern, places, groups}
 use Rattle.paper.specs.Check.{body_end, kind_at, part, ranges_of}
 use Rattle.paper.specs.Machine.{Core, captures, size, written_out, opening, closing, one_of}
 use Rattle.paper.proofs.machine.Sizes.{size_written}
+use Rattle.pattern.specs.declared.Kind.{Kind}
 use Rattle.laying.specs.Laid.{Holds, Kept, entry_of, Lays}
 use Rattle.laying.specs.Single.{Fitting, Put, Ranged, RangedLaid, Head}
 use Rattle.laying.proofs.Stores.{put_holds, plain_holds, holds_kept, lays_kept, lays_none, kept_none, kept_both}
@@ -17,8 +18,9 @@ use Rattle.laying.proofs.Entering.{entry_small, at_least_one}
 use Rattle.laying.proofs.Single.{head_stands}
 use Rattle.places.specs.Walk.{One, OneLaid, HeadLaid, Several, SeveralLaid, Repeat, RepeatLaid}
 use Rattle.places.specs.Standing.{Row}
-use Rattle.places.proofs.Adding.{row_long}
-use Rattle.places.proofs.Views.{RowView, nothing_view, set_view, group_view, repeat_view, row_view}
+use Rattle.places.specs.Sums.{number_of, KindAt}
+use Rattle.places.proofs.Adding.{row_long, kind_known}
+use Rattle.places.proofs.Views.{RowView, nothing_view, set_view, group_view, repeat_view, empty_view, sequence_view, alternation_view}
 
 -- `one` without places
 pub nothing_to_lay : {bs : List ℕ} {at stop base next first n gs : ℕ} {t : List ℕ} → n ≡ 0 → OneLaid bs at stop base next first n gs t t
@@ -41,19 +43,19 @@ one_kept {base} {n} {t} {t'} some k = kept_both base (base + n) k (kept_none bas
     one_more (suc n) some = omega arith
 
 -- a record that takes nothing is one place
-pub stop_laid : {bs : List ℕ} {at stop base next first n gs kind : ℕ} {t t' : List ℕ} → (n ≡ 0 → ⊥) → kind ≡ kind_at bs at → kind ≡ 0 → Put t base 8 0 0 0 t'
+pub stop_laid : {bs : List ℕ} {at stop base next first n gs : ℕ} {t t' : List ℕ} → (n ≡ 0 → ⊥) → kind_at bs at ≡ 0 → Put t base 8 0 0 0 t'
     → OneLaid bs at stop base next first n gs t t'
-stop_laid {bs} {at} {base = base} {next = next} {first = first} {t' = t'} some ek none put =
+stop_laid {bs} {at} {base = base} {next = next} {first = first} {t' = t'} some none put =
     record {
       kept = one_kept some put.kept;
-      laid = λ m. as_tree t' bs first base next (nothing_view m.tree bs at m.inside.stand (sym ek ∙ none)) (put_holds bs put (omega arith) (λ e. absurd (omega arith)));
+      laid = λ m. as_tree t' bs first base next (nothing_view m.tree bs at m.inside.stand none) (put_holds bs put (omega arith) (λ e. absurd (omega arith)));
     }
 
 -- a byte set is one place
-pub set_ask : {bs : List ℕ} {at stop base next first n gs kind : ℕ} → One bs at stop base next first n gs → (n ≡ 0 → ⊥) → kind ≡ kind_at bs at → kind ≡ 2
+pub set_ask : {bs : List ℕ} {at stop base next first n gs : ℕ} → One bs at stop base next first n gs → (n ≡ 0 → ⊥) → kind_at bs at ≡ 2
     → Ranged bs (at + 4) stop base next
-set_ask {bs} {at} m some ek two =
-    let v = set_view m.tree bs at m.inside.stand (sym ek ∙ two) in
+set_ask {bs} {at} m some two =
+    let v = set_view m.tree bs at m.inside.stand two in
     record {
       pairs = length v.ranges;
       whole = omega (arith, v.pairs.whole, m.inside.end_is);
@@ -64,22 +66,22 @@ set_ask {bs} {at} m some ek two =
       follows = m.follows;
     }
 
-pub set_laid : {bs : List ℕ} {at stop base next first n gs kind : ℕ} {t t' : List ℕ} → (n ≡ 0 → ⊥) → kind ≡ kind_at bs at → kind ≡ 2
+pub set_laid : {bs : List ℕ} {at stop base next first n gs : ℕ} {t t' : List ℕ} → (n ≡ 0 → ⊥) → kind_at bs at ≡ 2
     → RangedLaid bs (at + 4) stop base next t t' → OneLaid bs at stop base next first n gs t t'
-set_laid {bs} {at} {base = base} {next = next} {first = first} {t' = t'} some ek two r =
+set_laid {bs} {at} {base = base} {next = next} {first = first} {t' = t'} some two r =
     record {
       kept = one_kept some r.kept;
       laid = λ m.
-          let v = set_view m.tree bs at m.inside.stand (sym ek ∙ two) in
+          let v = set_view m.tree bs at m.inside.stand two in
           let ranges = ap (λ (e : ℕ). ranges_of (part bs (at + 4) e)) (sym m.inside.end_is) ∙ v.pairs.found in
           as_tree t' bs first base next v.is (subst (λ (r : List Range). Holds t' bs base (one_of r next)) ranges r.held);
     }
 
 -- a group: its open, what it holds, its close
-abbrev pub group_one : {bs : List ℕ} {at stop base next first n gs kind : ℕ} → One bs at stop base next first n gs → kind ≡ kind_at bs at → kind ≡ 3
+abbrev pub group_one : {bs : List ℕ} {at stop base next first n gs : ℕ} → One bs at stop base next first n gs → kind_at bs at ≡ 3
     → One bs (at + 4) stop (base + 1) (base + 1 + (n - 2)) (first + 1) (n - 2) (gs - 1)
-group_one {bs} {at} m ek three =
-    let v = group_view m.tree bs at m.inside.stand (sym ek ∙ three) in
+group_one {bs} {at} m three =
+    let v = group_view m.tree bs at m.inside.stand three in
     let e : places m.tree ≡ 2 + places v.inner = ap places v.is in
     let f : groups m.tree ≡ suc (groups v.inner) = ap groups v.is in
     record {
@@ -99,16 +101,16 @@ group_one {bs} {at} m ek three =
     }
 
 -- a group has its open and its close
-pub group_two : {bs : List ℕ} {at stop base next first n gs kind : ℕ} → One bs at stop base next first n gs → kind ≡ kind_at bs at → kind ≡ 3 → 2 ≤ n
-group_two {bs} {at} m ek three =
-    let v = group_view m.tree bs at m.inside.stand (sym ek ∙ three) in
+pub group_two : {bs : List ℕ} {at stop base next first n gs : ℕ} → One bs at stop base next first n gs → kind_at bs at ≡ 3 → 2 ≤ n
+group_two {bs} {at} m three =
+    let v = group_view m.tree bs at m.inside.stand three in
     let e : places m.tree ≡ 2 + places v.inner = ap places v.is in
     omega (arith, m.places_are)
 
 -- a group is one itself
-pub group_some : {bs : List ℕ} {at stop base next first n gs kind : ℕ} → One bs at stop base next first n gs → kind ≡ kind_at bs at → kind ≡ 3 → 1 ≤ gs
-group_some {bs} {at} m ek three =
-    let v = group_view m.tree bs at m.inside.stand (sym ek ∙ three) in
+pub group_some : {bs : List ℕ} {at stop base next first n gs : ℕ} → One bs at stop base next first n gs → kind_at bs at ≡ 3 → 1 ≤ gs
+group_some {bs} {at} m three =
+    let v = group_view m.tree bs at m.inside.stand three in
     let f : groups m.tree ≡ suc (groups v.inner) = ap groups v.is in
     omega (arith, m.groups_are)
 
@@ -123,16 +125,15 @@ captures_lays t bs k e base next p ep =
     (λ a b c. (a, b, c))
 
 -- the open, what the group holds and the close lay the group
-pub group_laid : {bs : List ℕ} {at stop base next first n gs kind : ℕ} {t t1 t2 : List ℕ} → One bs at stop base next first n gs → kind ≡ kind_at bs at
-    → kind ≡ 3 → HeadLaid bs (at + 4) stop 1 first 0 base (base + 1 + (n - 2)) (first + 1) (n - 2) (gs - 1) t t1
+pub group_laid : {bs : List ℕ} {at stop base next first n gs : ℕ} {t t1 t2 : List ℕ} → One bs at stop base next first n gs → kind_at bs at ≡ 3 → HeadLaid bs (at + 4) stop 1 first 0 base (base + 1 + (n - 2)) (first + 1) (n - 2) (gs - 1) t t1
     → Put t1 (base + 1 + (n - 2)) 2 next first 0 t2 → OneLaid bs at stop base next first n gs t t2
-group_laid {bs} {at} {stop} {base} {next} {first} {n} {t2 = t2} m0 ek three h put =
+group_laid {bs} {at} {stop} {base} {next} {first} {n} {t2 = t2} m0 three h put =
     record {
-      kept = kept_both base (base + n) h.kept put.kept (omega arith) (omega (arith, group_two m0 ek three)) (omega arith)
-          (omega (arith, group_two m0 ek three));
+      kept = kept_both base (base + n) h.kept put.kept (omega arith) (omega (arith, group_two m0 three)) (omega arith)
+          (omega (arith, group_two m0 three));
       laid = λ m.
-          let o = group_one m ek three in
-          let v = group_view m.tree bs at m.inside.stand (sym ek ∙ three) in
+          let o = group_one m three in
+          let v = group_view m.tree bs at m.inside.stand three in
           let e = written_out v.inner (first + 1) in
           let ep : n - 2 ≡ size e = o.places_are ∙ sym (size_written v.inner (first + 1)) in
           as_tree t2 bs first base next v.is
@@ -142,10 +143,9 @@ group_laid {bs} {at} {stop} {base} {next} {first} {n} {t2 = t2} m0 ek three h pu
     }
 
 -- a repeat
-abbrev pub repeat_ask : {bs : List ℕ} {at stop base next first n gs kind : ℕ} → One bs at stop base next first n gs → (n ≡ 0 → ⊥) → kind ≡ kind_at bs at
-    → kind ≡ 6 → Repeat bs (at + 4) stop base next first n gs
-repeat_ask {bs} {at} m some ek six =
-    let v = repeat_view m.tree bs at m.inside.stand (sym ek ∙ six) in
+abbrev pub repeat_ask : {bs : List ℕ} {at stop base next first n gs : ℕ} → One bs at stop base next first n gs → (n ≡ 0 → ⊥) → kind_at bs at ≡ 6 → Repeat bs (at + 4) stop base next first n gs
+repeat_ask {bs} {at} m some six =
+    let v = repeat_view m.tree bs at m.inside.stand six in
     let f : groups m.tree ≡ groups v.inner = ap groups v.is in
     record {
       least = v.least;
@@ -169,26 +169,18 @@ repeat_ask {bs} {at} m some ek six =
     }
 
 -- a repeat is laid by its passes
-pub repeat_laid : {bs : List ℕ} {at stop base next first n gs kind : ℕ} {t t' : List ℕ} → (n ≡ 0 → ⊥) → kind ≡ kind_at bs at → kind ≡ 6
+pub repeat_laid : {bs : List ℕ} {at stop base next first n gs : ℕ} {t t' : List ℕ} → (n ≡ 0 → ⊥) → kind_at bs at ≡ 6
     → RepeatLaid bs (at + 4) stop base next first n gs t t' → OneLaid bs at stop base next first n gs t t'
-repeat_laid {bs} {at} {base = base} {next = next} {first = first} {t' = t'} some ek six r =
+repeat_laid {bs} {at} {base = base} {next = next} {first = first} {t' = t'} some six r =
     record {
       kept = r.kept;
-      laid = λ m. as_tree t' bs first base next (repeat_view m.tree bs at m.inside.stand (sym ek ∙ six)).is (r.laid (repeat_ask m some ek six));
+      laid = λ m. as_tree t' bs first base next (repeat_view m.tree bs at m.inside.stand six).is (r.laid (repeat_ask m some six));
     }
 
--- a sequence or an alternation: any other record that has places
-module _ {bs : List ℕ} {at stop base next first n gs kind : ℕ} (some : n ≡ 0 → ⊥) (ek : kind ≡ kind_at bs at) (k0 : kind ≡ 0 → ⊥) (k2 : kind ≡ 2 → ⊥)
-    (k3 : kind ≡ 3 → ⊥) (k6 : kind ≡ 6 → ⊥) where
-  -- the members of the record
-  pub row_of : (m : One bs at stop base next first n gs) → RowView bs at (eqb kind 5) m.tree
-  row_of m =
-      subst (λ (k : ℕ). RowView bs at (eqb k 5) m.tree) (sym ek)
-      (row_view m.tree bs at m.inside.stand (λ e. some (m.places_are ∙ e)) (λ e. k0 (ek ∙ e)) (λ e. k2 (ek ∙ e)) (λ e. k3 (ek ∙ e))
-      (λ e. k6 (ek ∙ e)))
-
-  -- what the row of them is asked for
-  abbrev pub row_ask : One bs at stop base next first n gs → Several bs (at + 4) stop (eqb kind 5) base next first n gs
+-- a sequence or an alternation
+module _ {bs : List ℕ} {at stop base next first n gs : ℕ} (forks : Bool) (row_of : (m : One bs at stop base next first n gs) → RowView bs at forks m.tree) where
+  -- what the row of its members is asked for
+  abbrev pub row_ask : One bs at stop base next first n gs → Several bs (at + 4) stop forks base next first n gs
   row_ask m =
       let v = row_of m in
       record {
@@ -206,9 +198,26 @@ module _ {bs : List ℕ} {at stop base next first n gs kind : ℕ} (some : n ≡
       }
 
   -- the row lays the record
-  pub row_laid : {t t' : List ℕ} → SeveralLaid bs (at + 4) stop (eqb kind 5) base next first n gs t t' → OneLaid bs at stop base next first n gs t t'
+  pub row_laid : {t t' : List ℕ} → SeveralLaid bs (at + 4) stop forks base next first n gs t t' → OneLaid bs at stop base next first n gs t t'
   row_laid {t' = t'} r =
       record { kept = r.kept; laid = λ m. subst (λ (c : Core). Lays t' bs c base next) (sym ((row_of m).written first)) (r.laid (row_ask m)) }
+
+-- the members of a sequence
+abbrev pub in_sequence : {bs : List ℕ} {at stop base next first n gs : ℕ} → kind_at bs at ≡ 4 → (m : One bs at stop base next first n gs) → RowView bs at false m.tree
+in_sequence {bs} {at} four m = sequence_view m.tree bs at m.inside.stand four
+
+-- and of an alternation
+abbrev pub in_alternation : {bs : List ℕ} {at stop base next first n gs : ℕ} → kind_at bs at ≡ 5 → (m : One bs at stop base next first n gs) → RowView bs at true m.tree
+in_alternation {bs} {at} five m = alternation_view m.tree bs at m.inside.stand five
+
+-- an empty record has no places
+pub empty_laid : {bs : List ℕ} {at stop base next first n gs : ℕ} {t : List ℕ} → One bs at stop base next first n gs → kind_at bs at ≡ 1
+    → OneLaid bs at stop base next first n gs t t
+empty_laid {bs} {at} m one = nothing_to_lay (m.places_are ∙ ap places (empty_view m.tree bs at m.inside.stand one))
+
+-- the kind that was found is the record's
+pub kind_found : {bs : List ℕ} {at stop base next first n gs : ℕ} {k v : Kind} → KindAt bs at k → k ≡ v → One bs at stop base next first n gs → kind_at bs at ≡ number_of v
+kind_found {bs} {at} at_kind is m = sym (at_kind (kind_known m.tree bs at m.inside.stand)) ∙ ap number_of is
 
 -- a head and the expression behind it
 pub head_one : {bs : List ℕ} {at stop kind a n base next first p g v : ℕ} {t t1 t2 : List ℕ} → v ≡ entry_of p (base + 1) next → Head kind a n

@@ -1,9 +1,10 @@
 -- Building records in a row, as a sequence or as an alternation.
 use Prim.Native.Nat.{ℕ, ◌+◌, ◌-◌, ◌≤◌, ◌<◌}
 use mathlib.Core.Path.{◌≡◌, refl, sym, ap, subst, ◌∙◌}
-use mathlib.Core.Bool.{Bool, true, false}
+use mathlib.Core.Bool.{Bool, true, false, false≢true}
 use mathlib.Core.List.{List, [], ◌∷◌}
 use native.Mathlib.Omega.{arith}
+use mir.Val.{bool_byte as from_bool}
 use lib.ListN.{length}
 use Rattle.paper.specs.Pattern.{Pattern, places, groups}
 use Rattle.paper.specs.Check.{body_end}
@@ -16,7 +17,8 @@ use Rattle.laying.specs.Single.{Fitting, Put}
 use Rattle.laying.proofs.Stores.{plain_holds, holds_kept, lays_kept, kept_both}
 use Rattle.laying.proofs.Entering.{entry_small}
 use Rattle.places.specs.Sums.{Counting, Counted}
-use Rattle.places.specs.Walk.{One, OneLaid, Several, SeveralLaid}
+use Rattle.places.specs.declared.walk.Part.{Part}
+use Rattle.places.specs.Walk.{One, OneLaid, Several, SeveralLaid, Joining, Joined, OneAsked, OneMade, RowAsked, RowMade}
 use Rattle.places.specs.Standing.{Stands, Row, row_places, row_core}
 use Rattle.places.proofs.Adding.{row_long}
 use Rattle.places.proofs.Sizes.{row_size}
@@ -275,64 +277,99 @@ row_header {bs} {at} {stop} m = on m.records m.stand m.some
     on [] h lt = absurd (omega arith)
     on (e ∷ es) h lt = omega (arith, row_long es bs (body_end bs at) stop h.1)
 
--- `chained` and `forked`, record by record: what is left is a row, and whoever lays it has laid all
-pub record Along (bs : List ℕ) (start stop : ℕ) (forks : Bool) (base next first n gs : ℕ) (before : List ℕ) (at end from first' left inside : ℕ) (now : List ℕ) : Type 0 where
-  pub row : Several bs at stop forks from next first' left inside
-  pub end_is : end ≡ body_end bs at
-  pub passed : start ≤ at
-  pub same_length : length now ≡ length before
-  pub laid : (after : List ℕ) → SeveralLaid bs at stop forks from next first' left inside now after → SeveralLaid bs start stop forks base next first n gs before after
+-- no fork takes no place
+without : {head : ℕ} (base p : ℕ) → head ≡ 0 → base + head + p ≡ base + p
+without base p eh = omega (arith, eh)
+
+n_without : {head : ℕ} (n p : ℕ) → head ≡ 0 → n - head - p ≡ n - p
+n_without n p eh = omega (arith, eh)
+
+base_without : {head : ℕ} (base : ℕ) → head ≡ 0 → base + head ≡ base
+base_without base eh = omega (arith, eh)
+
+-- a record that others follow, as a sequence or as an alternation, behind so many places of its own fork
+module _ {bs : List ℕ} {at stop base next first n gs end p g k head : ℕ} (ee : end ≡ body_end bs at) (es : end ≡ stop → ⊥) (c : Counted bs at end p g k) where
+  -- its places and those of the others are the places of the row
+  pub join_sum : (forks : Bool) → head ≡ from_bool forks → Several bs at stop forks base next first n gs → head + p ≤ n
+  join_sum false eh m = omega (arith, eh, chain_sum ee es c m)
+  join_sum true eh m = omega (arith, eh, fork_sum ee es c m)
+
+  -- what leading on from it asks for
+  pub join_ask : (forks : Bool) → head ≡ from_bool forks → Several bs at stop forks base next first n gs → Joining forks base (base + head + p) next
+  join_ask false eh m =
+      record { room = λ is. absurd (false≢true is); place = omega (arith, join_sum false eh m, m.room); follows = m.follows }
+  join_ask true eh m =
+      record { room = λ is. omega (arith, fork_sum ee es c m, m.room); place = omega (arith, join_sum true eh m, m.room); follows = m.follows }
+
+  -- what the others are asked for
+  pub join_rest : (forks : Bool) → head ≡ from_bool forks → Several bs at stop forks base next first n gs
+      → Several bs end stop forks (base + head + p) next (first + g) (n - head - p) (gs - g)
+  join_rest false eh m = rw (without base p eh, n_without n p eh) (chain_rest ee es c m)
+  join_rest true eh m = rw eh (fork_rest ee es c m)
+
+  -- what it is asked for
+  pub join_one : (forks : Bool) {out : ℕ} (t t1 : List ℕ) → head ≡ from_bool forks → Joined forks base p (base + head + p) (n - head - p) next out t t1
+      → Several bs at stop forks base next first n gs → One bs at end (base + head) out first p g
+  join_one false t t1 eh j m = rw (base_without base eh) (chain_one ee es c _ (rw (without base p eh, n_without n p eh) at j.0) m)
+  join_one true t t1 eh j m = rw (eh, j.0) (fork_one ee es c m)
+
+  -- both lay the row
+  pub join_laid : (forks : Bool) {out : ℕ} (t t1 : List ℕ) {t2 t3 : List ℕ} → head ≡ from_bool forks
+      → Joined forks base p (base + head + p) (n - head - p) next out t t1 → Several bs at stop forks base next first n gs
+      → OneLaid bs at end (base + head) out first p g t1 t2
+      → SeveralLaid bs end stop forks (base + head + p) next (first + g) (n - head - p) (gs - g) t2 t3 → SeveralLaid bs at stop forks base next first n gs t t3
+  join_laid false t t1 eh j m o r =
+      rw (sym j.1)
+      (chain_laid ee es c (rw (without base p eh, n_without n p eh) at j.0) m (rw (base_without base eh) at o) (rw (without base p eh, n_without n p eh) at r))
+  join_laid true t t1 eh j m o r = fork_laid ee es c refl refl m (rw eh at j.1) (rw (eh, j.0) at o) (rw eh at r)
+
+-- `row`, record by record: what is left is a row of the same part, and whoever lays it has laid all
+pub record Along (part : Part) (forks : Bool) (left : Part) (end : ℕ) (before now : List ℕ) : Type 0 where
+  pub same_pattern : left.pattern ≡ part.pattern
+  pub same_stop : left.stop ≡ part.stop
+  pub same_next : left.next ≡ part.next
+  pub row : Several part.pattern.now left.at part.stop forks left.base part.next left.first left.places left.groups
+  pub end_is : end ≡ body_end part.pattern.now left.at
+  pub passed : part.at ≤ left.at
+  pub laid : (after : List ℕ) → SeveralLaid part.pattern.now left.at part.stop forks left.base part.next left.first left.places left.groups now after
+      → RowMade part forks before after
 
 -- all records are left
-pub along_all : {bs : List ℕ} {start stop base next first n gs end : ℕ} {forks : Bool} (t : List ℕ) → Several bs start stop forks base next first n gs
-    → end ≡ body_end bs start → Along bs start stop forks base next first n gs t start end base first n gs t
-along_all t m ee = record { row = m; end_is = ee; passed = omega arith; same_length = refl; laid = λ after r. r }
+pub along_all : {part : Part} {forks : Bool} {end : ℕ} (t : List ℕ) → RowAsked part forks → end ≡ body_end part.pattern.now part.at → Along part forks part end t t
+along_all t m ee =
+    record { same_pattern = refl; same_stop = refl; same_next = refl; row = m; end_is = ee; passed = omega arith; laid = λ after r. r }
 
 -- one record less
-pub along_chain : {bs : List ℕ} {start stop base next first n gs at end end' from first' left inside p g k v : ℕ} {t0 t t1 : List ℕ}
-    → Along bs start stop false base next first n gs t0 at end from first' left inside t → (end ≡ stop → ⊥) → Counted bs at end p g k
-    → v ≡ entry_of (left - p) (from + p) next → OneLaid bs at end from v first' p g t t1 → end' ≡ body_end bs end
-    → Along bs start stop false base next first n gs t0 end end' (from + p) (first' + g) (left - p) (inside - g) t1
-along_chain i es c ev o ee' =
+pub along_one : {part left : Part} {forks : Bool} {end end' head out p g k : ℕ} {t0 t t1 t2 : List ℕ} → Along part forks left end t0 t → (end ≡ part.stop → ⊥)
+    → Counted part.pattern.now left.at end p g k → head ≡ from_bool forks
+    → Joined forks left.base p (left.base + head + p) (left.places - head - p) part.next out t t1
+    → OneLaid part.pattern.now left.at end (left.base + head) out left.first p g t1 t2 → end' ≡ body_end part.pattern.now end
+    → Along part forks (record {
+      pattern = left.pattern;
+      at = end;
+      stop = left.stop;
+      first = left.first + g;
+      places = left.places - head - p;
+      groups = left.groups - g;
+      base = left.base + head + p;
+      next = left.next;
+    }) end' t0 t2
+along_one {forks = forks} i es c eh j o ee' =
     record {
-      row = chain_rest i.end_is es c i.row;
+      same_pattern = i.same_pattern;
+      same_stop = i.same_stop;
+      same_next = i.same_next;
+      row = join_rest i.end_is es c forks eh i.row;
       end_is = ee';
       passed = omega (arith, i.passed, i.end_is);
-      same_length = o.kept.same_length ∙ i.same_length;
-      laid = λ after r. i.laid after (chain_laid i.end_is es c ev i.row o r);
+      laid = λ after r. i.laid after (join_laid i.end_is es c forks _ _ eh j i.row o r);
     }
 
--- one less behind its fork
-pub along_fork : {bs : List ℕ} {start stop base next first n gs at end end' from first' left inside p g k u v : ℕ} {t0 t t1 t2 : List ℕ}
-    → Along bs start stop true base next first n gs t0 at end from first' left inside t → (end ≡ stop → ⊥) → Counted bs at end p g k
-    → u ≡ entry_of p (from + 1) next → v ≡ entry_of (left - 1 - p) (from + 1 + p) next → Put t from 0 u v 0 t1
-    → OneLaid bs at end (from + 1) next first' p g t1 t2 → end' ≡ body_end bs end
-    → Along bs start stop true base next first n gs t0 end end' (from + 1 + p) (first' + g) (left - 1 - p) (inside - g) t2
-along_fork i es c eu ev put o ee' =
-    record {
-      row = fork_rest i.end_is es c i.row;
-      end_is = ee';
-      passed = omega (arith, i.passed, i.end_is);
-      same_length = o.kept.same_length ∙ put.kept.same_length ∙ i.same_length;
-      laid = λ after r. i.laid after (fork_laid i.end_is es c eu ev i.row put o r);
-    }
+-- the last record is asked for as one
+pub along_ask : {part left : Part} {forks : Bool} {end : ℕ} {t0 t : List ℕ} → Along part forks left end t0 t → end ≡ part.stop → OneAsked left
+along_ask i es = rw (i.same_pattern, i.same_stop, i.same_next) (last_one i.end_is es i.row)
 
--- the last record
-pub along_last : {bs : List ℕ} {start stop base next first n gs at end from first' left inside : ℕ} {forks : Bool} {t0 t t1 : List ℕ}
-    → Along bs start stop forks base next first n gs t0 at end from first' left inside t → end ≡ stop → OneLaid bs at stop from next first' left inside t t1
-    → SeveralLaid bs start stop forks base next first n gs t0 t1
-along_last i es o = i.laid _ (last_laid i.end_is es o)
-
--- the numbers of a fork fit
-pub fork_fits : {bs : List ℕ} {start stop base next first n gs at end from first' left inside p g k u v : ℕ} {t0 t : List ℕ}
-    → Along bs start stop true base next first n gs t0 at end from first' left inside t → (end ≡ stop → ⊥) → Counted bs at end p g k
-    → u ≡ entry_of p (from + 1) next → v ≡ entry_of (left - 1 - p) (from + 1 + p) next → 2040 ≤ length t0 → Fitting t from u v 0
-fork_fits {next = next} {from = from} {left = left} {p = p} i es c eu ev room =
-    let m = i.row in
-    let sum = fork_sum i.end_is es c m in
-    record {
-      room = omega (arith, m.room, i.same_length);
-      next_fits = omega (arith, eu, entry_small p (from + 1) next {most = 65535} (omega (arith, m.room)) (omega (arith, m.follows)));
-      a_fits = omega (arith, ev, entry_small (left - 1 - p) (from + 1 + p) next {most = 65535} (omega (arith, m.room)) (omega (arith, m.follows)));
-      n_fits = omega arith;
-    }
+-- and lays all
+pub along_last : {part left : Part} {forks : Bool} {end : ℕ} {t0 t t1 : List ℕ} → Along part forks left end t0 t → end ≡ part.stop → OneMade left t t1
+    → RowMade part forks t0 t1
+along_last i es o = i.laid _ (last_laid i.end_is es (rw (i.same_pattern, i.same_stop, i.same_next) at o))

@@ -1,7 +1,7 @@
 -- Which tree stands where the number of its kind is known.
 use Prim.Native.Nat.{ℕ, ◌+◌, ◌≤◌}
 use mathlib.Core.Path.{◌≡◌, refl, sym, subst}
-use mathlib.Core.Bool.{Bool}
+use mathlib.Core.Bool.{Bool, true, false}
 use mathlib.Core.List.{List}
 use native.Mathlib.Omega.{arith}
 use lib.Dec.{eqb}
@@ -89,29 +89,48 @@ repeat_view (sequence ms) bs at h k = absurd (omega (arith, h.0))
 repeat_view (alternation ms) bs at h k = absurd (omega (arith, h.0))
 repeat_view (repeat least upper mode e) bs at h k = record { least = least; upper = upper; mode = mode; inner = e; is = refl; numbers = h.1; stand = h.2; end_is = h.3 }
 
--- a record with places that is none of those is a sequence or an alternation
-pub row_view : (e : Pattern) (bs : List ℕ) (at : ℕ) → Stands bs at e → (places e ≡ 0 → ⊥) → (kind_at bs at ≡ 0 → ⊥) → (kind_at bs at ≡ 2 → ⊥)
-    → (kind_at bs at ≡ 3 → ⊥) → (kind_at bs at ≡ 6 → ⊥) → RowView bs at (eqb (kind_at bs at) 5) e
-row_view nothing bs at h some k0 k2 k3 k6 = absurd (k0 h)
-row_view empty bs at h some k0 k2 k3 k6 = absurd (some refl)
-row_view (bytes ranges) bs at h some k0 k2 k3 k6 = absurd (k2 h.0)
-row_view (group e) bs at h some k0 k2 k3 k6 = absurd (k3 h.0)
-row_view (sequence ms) bs at h some k0 k2 k3 k6 =
-    subst (λ (k : ℕ). RowView bs at (eqb k 5) (sequence ms)) (sym h.0) (record {
+-- kind 1
+pub empty_view : (e : Pattern) (bs : List ℕ) (at : ℕ) → Stands bs at e → kind_at bs at ≡ 1 → e ≡ empty
+empty_view nothing bs at h k = absurd (omega (arith, h))
+empty_view empty bs at h k = refl
+empty_view (bytes ranges) bs at h k = absurd (omega (arith, h.0))
+empty_view (group e) bs at h k = absurd (omega (arith, h.0))
+empty_view (sequence ms) bs at h k = absurd (omega (arith, h.0))
+empty_view (alternation ms) bs at h k = absurd (omega (arith, h.0))
+empty_view (repeat least upper mode e) bs at h k = absurd (omega (arith, h.0))
+
+-- kind 4
+pub sequence_view : (e : Pattern) (bs : List ℕ) (at : ℕ) → Stands bs at e → kind_at bs at ≡ 4 → RowView bs at false e
+sequence_view nothing bs at h k = absurd (omega (arith, h))
+sequence_view empty bs at h k = absurd (omega (arith, h))
+sequence_view (bytes ranges) bs at h k = absurd (omega (arith, h.0))
+sequence_view (group e) bs at h k = absurd (omega (arith, h.0))
+sequence_view (sequence ms) bs at h k =
+    record {
       records = list_of ms;
       written = λ first. sym (row_chained ms first);
       stand = members_row ms bs _ _ h.1;
       several = members_two ms;
       places_are = sym (members_places ms);
       groups_are = sym (members_groups ms);
-    })
-row_view (alternation ms) bs at h some k0 k2 k3 k6 =
-    subst (λ (k : ℕ). RowView bs at (eqb k 5) (alternation ms)) (sym h.0) (record {
+    }
+sequence_view (alternation ms) bs at h k = absurd (omega (arith, h.0))
+sequence_view (repeat least upper mode e) bs at h k = absurd (omega (arith, h.0))
+
+-- kind 5
+pub alternation_view : (e : Pattern) (bs : List ℕ) (at : ℕ) → Stands bs at e → kind_at bs at ≡ 5 → RowView bs at true e
+alternation_view nothing bs at h k = absurd (omega (arith, h))
+alternation_view empty bs at h k = absurd (omega (arith, h))
+alternation_view (bytes ranges) bs at h k = absurd (omega (arith, h.0))
+alternation_view (group e) bs at h k = absurd (omega (arith, h.0))
+alternation_view (sequence ms) bs at h k = absurd (omega (arith, h.0))
+alternation_view (alternation ms) bs at h k =
+    record {
       records = list_of ms;
       written = λ first. sym (row_forked ms first);
       stand = members_row ms bs _ _ h.1;
       several = members_two ms;
       places_are = omega (arith, members_places ms, members_count ms);
       groups_are = sym (members_groups ms);
-    })
-row_view (repeat least upper mode e) bs at h some k0 k2 k3 k6 = absurd (k6 h.0)
+    }
+alternation_view (repeat least upper mode e) bs at h k = absurd (omega (arith, h.0))

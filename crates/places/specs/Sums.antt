@@ -2,10 +2,20 @@
 use Rattle.std.specs.Prelude.{ℕ, ◌+◌, ◌-◌, ◌≤◌, ◌<◌, ◌≡◌, cond, List, ltb, eqb, length}
 use Rattle.paper.specs.Limits.{pattern_bytes, pattern_places, row_count}
 use Rattle.paper.specs.Pattern.{Pattern}
-use Rattle.paper.specs.Layout.{CountsRight}
-use Rattle.paper.specs.Check.{number_at, repeat_head, upper_of}
+use Rattle.paper.specs.Layout.{CountsRight, kind_number}
+use Rattle.paper.specs.Check.{number_at, kind_at, repeat_head, upper_of}
+use Rattle.pattern.specs.Kinds.{kind_of}
+use Rattle.pattern.specs.declared.Kind.{Kind}
 use Rattle.pattern.specs.Walk.{capped, optional_passes, pass_places, places_in, groups_in}
 use Rattle.places.specs.Standing.{Row}
+
+-- the number of a kind, in a record's header
+abbrev pub number_of : Kind → ℕ
+number_of kind = kind_number (kind_of kind)
+
+-- the kind of a record whose number is one of a kind
+abbrev pub KindAt : List ℕ → ℕ → Kind → Type 0
+KindAt bs at kind = kind_at bs at ≤ 6 → number_of kind ≡ kind_at bs at
 
 -- no record has more places than this when those inside it are counted up to the limit
 abbrev pub most_own : ℕ

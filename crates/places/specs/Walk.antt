@@ -1,14 +1,16 @@
 -- What laying records asks and leaves behind. Each promise holds for every tree that meets what was asked, so no promise names a tree of its own.
-use Rattle.std.specs.Prelude.{ℕ, ◌+◌, ◌≤◌, ◌<◌, ◌≡◌, Bool, List, length}
+use Rattle.std.specs.Prelude.{ℕ, ◌+◌, ◌≤◌, ◌<◌, ◌≡◌, Bool, true, false, List, length}
 use Rattle.paper.specs.Limits.{pattern_bytes, pattern_places, row_count}
 use Rattle.paper.specs.Pattern.{Mode, Upper, Pattern, places, groups, repeat_places}
 use Rattle.paper.specs.Check.{body_end, repeat_head}
 use Rattle.paper.specs.Machine.{written_out}
-use Rattle.paper.specs.Tables.{place_of}
+use Rattle.paper.specs.Tables.{fork_place, place_of}
 use Rattle.pattern.specs.Walk.{groups_in}
 use Rattle.laying.specs.Laid.{Holds, Kept, entry_of, Lays}
 use Rattle.laying.specs.Room.{most_places}
+use Rattle.laying.specs.Single.{Put}
 use Rattle.places.specs.Standing.{Passes, Stands, Row, row_places, row_core}
+use Rattle.places.specs.declared.walk.Part.{Part}
 
 -- the record of a tree stands from an offset up to `stop`, its first group being number `first`
 pub record Inside (bs : List ℕ) (at stop first : ℕ) (e : Pattern) : Type 0 where
@@ -74,3 +76,40 @@ pub record RepeatLaid (bs : List ℕ) (start stop base next first n g : ℕ) (be
   pub kept : Kept base (base + n) before after
   pub laid : (m : Repeat bs start stop base next first n g)
       → Lays after bs (written_out (Pattern.repeat m.least m.upper m.mode m.tree) first) base next
+
+-- `joined`: a record that others follow. In an alternation there is room for the fork before it
+pub record Joining (forks : Bool) (base second next : ℕ) : Type 0 where
+  pub room : forks ≡ true → base + 1 ≤ most_places
+  pub place : second ≤ most_places
+  pub follows : next ≤ most_places
+
+-- in a sequence it leads to the next that has places, in an alternation to what follows the row, and its fork to both
+abbrev pub Joined : Bool → ℕ → ℕ → ℕ → ℕ → ℕ → ℕ → List ℕ → List ℕ → Type 0
+Joined false base p second rest next out before after = (out ≡ entry_of rest second next) × (after ≡ before)
+Joined true base p second rest next out before after =
+    (out ≡ next) × Put before base fork_place (entry_of p (base + 1) next) (entry_of rest second next) 0 after
+
+-- the same of the parts of a pattern as they are told
+abbrev pub OneAsked : Part → Type 0
+OneAsked p = One p.pattern.now p.at p.stop p.base p.next p.first p.places p.groups
+
+abbrev pub OneMade : Part → List ℕ → List ℕ → Type 0
+OneMade p = OneLaid p.pattern.now p.at p.stop p.base p.next p.first p.places p.groups
+
+abbrev pub HeadAsked : Part → Type 0
+HeadAsked p = One p.pattern.now p.at p.stop (p.base + 1) p.next p.first p.places p.groups
+
+abbrev pub HeadMade : Part → ℕ → ℕ → ℕ → List ℕ → List ℕ → Type 0
+HeadMade p kind a n = HeadLaid p.pattern.now p.at p.stop kind a n p.base p.next p.first p.places p.groups
+
+abbrev pub RowAsked : Part → Bool → Type 0
+RowAsked p forks = Several p.pattern.now p.at p.stop forks p.base p.next p.first p.places p.groups
+
+abbrev pub RowMade : Part → Bool → List ℕ → List ℕ → Type 0
+RowMade p forks = SeveralLaid p.pattern.now p.at p.stop forks p.base p.next p.first p.places p.groups
+
+abbrev pub RepeatAsked : Part → Type 0
+RepeatAsked p = Repeat p.pattern.now (p.at + 4) p.stop p.base p.next p.first p.places p.groups
+
+abbrev pub RepeatMade : Part → List ℕ → List ℕ → Type 0
+RepeatMade p = RepeatLaid p.pattern.now (p.at + 4) p.stop p.base p.next p.first p.places p.groups

@@ -2,7 +2,6 @@
 // the places of a record ahead where another follows it.
 #![tactic(auto)]
 
-mod kinds;
 mod sums;
 mod walk;
 
@@ -10,9 +9,9 @@ ghost use Rattle.std.specs.Prelude.{◌≤◌, length};
 ghost use Rattle.laying.specs.Room.{table_room};
 ghost use Rattle.places.specs.Built.{Accepted, BuiltMatch, BuiltSearch};
 
-use laying::{any_star, put};
+use laying::{Place, Table};
 use pattern::{Pattern, PlaceKind};
-use walk::{Part, headed, one};
+use walk::Part;
 
 // Builds an accepted pattern's places for a whole match, and answers how many they are. Checking has told the pattern's own places and its groups.
 pub fn build_match(pattern: &[u8], table: &mut [u16], places: usize, groups: usize) -> usize
@@ -20,15 +19,19 @@ pub fn build_match(pattern: &[u8], table: &mut [u16], places: usize, groups: usi
     requires room { table_room ≤ length table.old }
     ensures { BuiltMatch pattern.now table.old table.new result }
 {
-    let part = Part {
+    let mut lent = Table { numbers: table };
+    let whole = Part {
+        pattern,
         at: 0,
         stop: pattern.len(),
         first: 1,
         places,
         groups,
+        base: 0,
+        next: places,
     };
-    one(pattern, table, part, 0, places);
-    put(table, places, PlaceKind::Accept as u16, 0, 0, 0);
+    whole.one(&mut lent);
+    lent.put(places, Place::plain(PlaceKind::Accept as u16, 0));
     places + 1
 }
 
@@ -40,17 +43,22 @@ pub fn build_search(pattern: &[u8], table: &mut [u16], places: usize, groups: us
 {
     let close = 5 + places;
     let second = close + 1;
-    any_star(table, 0, Pattern::LAZY, 4, 0);
-    let part = Part {
+    let end = second + 4;
+    let whole = Part {
+        pattern,
         at: 0,
         stop: pattern.len(),
         first: 1,
         places,
         groups,
+        base: 4,
+        next: close,
     };
-    headed(pattern, table, part, PlaceKind::Open as u16, 0, 0, 4, close);
-    put(table, close, PlaceKind::Close as u16, second, 0, 0);
-    any_star(table, second, Pattern::GREEDY, second + 4, groups + 1);
-    put(table, second + 4, PlaceKind::Accept as u16, 0, 0, 0);
-    second + 5
+    let mut lent = Table { numbers: table };
+    lent.any_star(0, Pattern::LAZY, 4, 0);
+    whole.headed(&mut lent, PlaceKind::Open as u16, 0, 0);
+    lent.put(close, Place::plain(PlaceKind::Close as u16, second));
+    lent.any_star(second, Pattern::GREEDY, end, groups + 1);
+    lent.put(end, Place::plain(PlaceKind::Accept as u16, 0));
+    end + 1
 }

@@ -1,26 +1,29 @@
 // The walk over the records of a pattern: each is laid by its kind, outer before inner and left to right.
-ghost use Rattle.std.specs.Prelude.{◌≡◌, true, false, ◌+◌, ◌≤◌, length};
+ghost use Rattle.std.specs.Prelude.{◌≡◌, ◌+◌, ◌≤◌, length};
 ghost use Rattle.paper.specs.Limits.{pattern_bytes};
-ghost use Rattle.paper.specs.Check.{body_end};
-ghost use Rattle.laying.specs.Room.{table_room};
+ghost use Rattle.paper.specs.Check.{body_end, kind_at};
+ghost use Rattle.laying.specs.Lent.{Writes};
 ghost use Rattle.laying.specs.Single.{Head};
-ghost use Rattle.places.specs.Walk.{One, OneLaid, HeadLaid, Several, SeveralLaid, Repeat, RepeatLaid};
+ghost use Rattle.places.specs.Walk.{Joining, Joined, OneAsked, OneMade, HeadAsked, HeadMade, RowAsked, RowMade, RepeatAsked, RepeatMade};
 
-use crate::sums::alone;
-use laying::repeats::Pass;
-use laying::{entered, put, repeats, set_place};
-use crate::kinds::Kind;
-use pattern::{Pattern, PlaceKind, counts};
+use crate::sums::{alone, known_kind};
+use laying::repeats::{Pass, Passes, inner_places, inner_start};
+use laying::{Place, Table, entered};
+use pattern::{Kind, Pattern, PlaceKind, counts};
 use records::number_at;
 
-// Records that are laid: where they stand and end, the number of their first group, and how many places and groups they have.
+// Records that are laid: where they stand and end, the number of their first group, how many places and groups they have,
+// where their places stand and what follows them.
 #[derive(Clone, Copy)]
-pub struct Part {
+pub struct Part<'a> {
+    pub pattern: &'a [u8],
     pub at: usize,
     pub stop: usize,
     pub first: usize,
     pub places: usize,
     pub groups: usize,
+    pub base: usize,
+    pub next: usize,
 }
 
 // Where the record at an offset ends.
@@ -32,229 +35,167 @@ fn record_end(pattern: &[u8], at: usize) -> usize
     at + 4 + number_at(pattern, at)
 }
 
-// A place that stands before one expression, and that expression behind it: an open, or a begin of a pass.
-#[cycle(walking)]
-pub fn headed(
-    pattern: &[u8],
-    table: &mut [u16],
-    part: Part,
-    kind: u16,
-    a: usize,
-    n: usize,
-    base: usize,
-    next: usize,
-)
-    requires one { One pattern.now part.at part.stop (base + 1) next part.first part.places part.groups }
-    requires head { Head kind a n }
-    requires room { table_room ≤ length table.old }
-    ensures { HeadLaid pattern.now part.at part.stop kind a n base next part.first part.places part.groups table.old table.new }
-{
-    put(
-        table,
-        base,
-        kind,
-        entered(part.places, base + 1, next),
-        a,
-        n,
-    );
-    one(pattern, table, part, base + 1, next);
-}
+impl Part<'_> {
+    // A place that stands before one expression, and that expression behind it: an open, or a begin of a pass.
+    #[cycle(walking)]
+    pub fn headed(self, table: &mut Table, kind: u16, a: usize, n: usize)
+        requires one { HeadAsked self }
+        requires head { Head kind a n }
+        ensures { Writes (HeadMade self.entry kind a n) table.old table.new }
+    {
+        let base = self.base + 1;
+        let next = entered(self.places, base, self.next);
+        table.put(self.base, Place { kind, next, a, n });
+        Part { base, ..self }.one(table);
+    }
 
-// The places of one repeat: the inner part of its first pass, and the passes around it and its copies.
-#[cycle(walking)]
-fn repeated(pattern: &[u8], table: &mut [u16], part: Part, base: usize, next: usize)
-    requires repeat { Repeat pattern.now (part.at + 4) part.stop base next part.first part.places part.groups }
-    requires room { table_room ≤ length table.old }
-    ensures { RepeatLaid pattern.now (part.at + 4) part.stop base next part.first part.places part.groups table.old table.new }
-{
-    let start = part.at + 4;
-    let first = part.first;
-    let groups = part.groups;
-    let least = number_at(pattern, start);
-    let most = number_at(pattern, start + 2);
-    let mode = number_at(pattern, start + 4);
-    let may = counts::optional(least, most);
-    let places = repeats::inner_places(part.places, least, may);
-    let model = repeats::inner_start(least, base);
-    let inner = Part {
-        at: start + 6,
-        stop: part.stop,
-        first,
-        places,
-        groups,
-    };
-    let pass = Pass {
-        model,
-        places,
-        first,
-        groups,
-        endless: most == Pattern::NO_UPPER_END,
-        mode,
-    };
-    one(pattern, table, inner, model, model + places);
-    repeats::passes(table, pass, least, may, base, next);
-}
-
-// The places of one record.
-#[cycle(walking)]
-pub fn one(pattern: &[u8], table: &mut [u16], part: Part, base: usize, next: usize)
-    requires one { One pattern.now part.at part.stop base next part.first part.places part.groups }
-    requires room { table_room ≤ length table.old }
-    ensures { OneLaid pattern.now part.at part.stop base next part.first part.places part.groups table.old table.new }
-{
-    let at = part.at;
-    let stop = part.stop;
-    let first = part.first;
-    let places = part.places;
-    let groups = part.groups;
-    let kind = number_at(pattern, at + 2);
-    let start = at + 4;
-    if places == 0 {} else if kind == Kind::NOTHING {
-        put(table, base, PlaceKind::Stop as u16, 0, 0, 0);
-    } else if kind == Kind::BYTES {
-        set_place(pattern, table, start, stop, base, next);
-    } else if kind == Kind::GROUP {
-        let close = base + 1 + (places - 2);
+    // The places of one repeat: the inner part of its first pass, and the passes around it and its copies.
+    #[cycle(walking)]
+    fn repeated(self, table: &mut Table)
+        requires { RepeatAsked self }
+        ensures { Writes (RepeatMade self.entry) table.old table.new }
+    {
+        let start = self.at + 4;
+        let must = number_at(self.pattern, start);
+        let most = number_at(self.pattern, start + 2);
+        let mode = number_at(self.pattern, start + 4);
+        let may = counts::optional(must, most);
+        let places = inner_places(self.places, must, may);
+        let model = inner_start(must, self.base);
         let inner = Part {
-            at: start,
-            stop,
-            first: first + 1,
-            places: places - 2,
-            groups: groups - 1,
-        };
-        headed(
-            pattern,
-            table,
-            inner,
-            PlaceKind::Open as u16,
-            first,
-            0,
-            base,
-            close,
-        );
-        put(table, close, PlaceKind::Close as u16, next, first, 0);
-    } else if kind == Kind::REPEAT {
-        repeated(pattern, table, part, base, next);
-    } else {
-        let inner = Part {
-            at: start,
-            stop,
-            first,
+            at: start + 6,
             places,
-            groups,
+            base: model,
+            next: model + places,
+            ..self
         };
-        row(pattern, table, inner, kind == Kind::ALTERNATION, base, next);
-    }
-}
-
-// The places of records that stand one after another, as a sequence or with the forks of an alternation.
-#[cycle(walking)]
-fn row(pattern: &[u8], table: &mut [u16], part: Part, forks: bool, base: usize, next: usize)
-    requires several { Several pattern.now part.at part.stop forks base next part.first part.places part.groups }
-    requires room { table_room ≤ length table.old }
-    ensures { SeveralLaid pattern.now part.at part.stop forks base next part.first part.places part.groups table.old table.new }
-{
-    if forks {
-        forked(pattern, table, part, base, next);
-    } else {
-        chained(pattern, table, part, base, next);
-    }
-}
-
-// The records of an alternation, each but the last behind its fork.
-#[cycle(walking)]
-fn forked(pattern: &[u8], table: &mut [u16], part: Part, base: usize, next: usize)
-    requires several { Several pattern.now part.at part.stop true base next part.first part.places part.groups }
-    requires room { table_room ≤ length table.old }
-    ensures { SeveralLaid pattern.now part.at part.stop true base next part.first part.places part.groups table.old table.new }
-{
-    let stop = part.stop;
-    let mut at = part.at;
-    let mut first = part.first;
-    let mut left = part.places;
-    let mut inside = part.groups;
-    let mut from = base;
-    let mut end = record_end(pattern, at);
-    while end != stop {
-        let own = alone(pattern, at, end);
-        let mine = own.places;
-        let second = from + 1 + mine;
-        let rest = left - 1 - mine;
-        let preferred = entered(mine, from + 1, next);
-        put(
-            table,
-            from,
-            PlaceKind::Fork as u16,
-            preferred,
-            entered(rest, second, next),
-            0,
-        );
-        let here = Part {
-            at,
-            stop: end,
-            first,
-            places: mine,
-            groups: own.groups,
+        let pass = Pass {
+            model,
+            places,
+            first: self.first,
+            groups: self.groups,
         };
-        one(pattern, table, here, from + 1, next);
-        at = end;
-        first += own.groups;
-        left = rest;
-        inside -= own.groups;
-        from = second;
-        end = record_end(pattern, at);
-    }
-    let last = Part {
-        at,
-        stop,
-        first,
-        places: left,
-        groups: inside,
-    };
-    one(pattern, table, last, from, next);
-}
-
-// The records of a sequence, each followed by the next that has places.
-#[cycle(walking)]
-fn chained(pattern: &[u8], table: &mut [u16], part: Part, base: usize, next: usize)
-    requires several { Several pattern.now part.at part.stop false base next part.first part.places part.groups }
-    requires room { table_room ≤ length table.old }
-    ensures { SeveralLaid pattern.now part.at part.stop false base next part.first part.places part.groups table.old table.new }
-{
-    let stop = part.stop;
-    let mut at = part.at;
-    let mut first = part.first;
-    let mut left = part.places;
-    let mut inside = part.groups;
-    let mut from = base;
-    let mut end = record_end(pattern, at);
-    while end != stop {
-        let own = alone(pattern, at, end);
-        let mine = own.places;
-        let second = from + mine;
-        let rest = left - mine;
-        let out = entered(rest, second, next);
-        let here = Part {
-            at,
-            stop: end,
-            first,
-            places: mine,
-            groups: own.groups,
+        let passes = Passes {
+            pass,
+            must,
+            may,
+            endless: most == Pattern::NO_UPPER_END,
+            mode,
+            base: self.base,
+            next: self.next,
         };
-        one(pattern, table, here, from, out);
-        at = end;
-        first += own.groups;
-        left = rest;
-        inside -= own.groups;
-        from = second;
-        end = record_end(pattern, at);
+        inner.one(table);
+        passes.lay(table);
     }
-    let last = Part {
-        at,
-        stop,
-        first,
-        places: left,
-        groups: inside,
-    };
-    one(pattern, table, last, from, next);
+
+    // The places of one record.
+    #[cycle(walking)]
+    pub fn one(self, table: &mut Table)
+        requires { OneAsked self }
+        ensures { Writes (OneMade self.entry) table.old table.new }
+    {
+        if self.places == 0 {
+            return;
+        }
+        let start = self.at + 4;
+        let inner = Part { at: start, ..self };
+        match known_kind(self.pattern, self.at) {
+            Kind::Nothing => table.put(self.base, Place::plain(PlaceKind::Stop as u16, 0)),
+            Kind::Empty => {}
+            Kind::Bytes => table.set_place(self.pattern, start, self.stop, self.base, self.next),
+            Kind::Group => self.group(table),
+            Kind::Sequence => inner.row(table, false),
+            Kind::Alternation => inner.row(table, true),
+            Kind::Repeat => self.repeated(table),
+        }
+    }
+
+    // The places of a group: its open, what it holds, its close.
+    #[cycle(walking)]
+    fn group(self, table: &mut Table)
+        requires one { OneAsked self }
+        requires group { kind_at self.pattern.now self.at ≡ 3 }
+        ensures { Writes (OneMade self.entry) table.old table.new }
+    {
+        let places = self.places - 2;
+        let close = self.base + 1 + places;
+        let inner = Part {
+            at: self.at + 4,
+            first: self.first + 1,
+            places,
+            groups: self.groups - 1,
+            next: close,
+            ..self
+        };
+        inner.headed(table, PlaceKind::Open as u16, self.first, 0);
+        let end = Place {
+            kind: PlaceKind::Close as u16,
+            next: self.next,
+            a: self.first,
+            n: 0,
+        };
+        table.put(close, end);
+    }
+
+    // Where a record of so many places leads that others follow, `rest` places from `second` on: in a sequence to the next that has places,
+    // in an alternation to what follows the row, and then a fork stands before the record.
+    fn joined(
+        self,
+        table: &mut Table,
+        forks: bool,
+        places: usize,
+        second: usize,
+        rest: usize,
+    ) -> usize
+        requires { Joining forks self.base second self.next }
+        ensures { Writes (Joined forks self.entry.base places second rest self.entry.next result) table.old table.new }
+    {
+        let other = entered(rest, second, self.next);
+        if forks {
+            let preferred = entered(places, self.base + 1, self.next);
+            table.put(self.base, Place::fork(preferred, other));
+            self.next
+        } else {
+            other
+        }
+    }
+
+    // The places of records that stand one after another, as a sequence or with the forks of an alternation, one before each record but the last.
+    #[cycle(walking)]
+    fn row(self, table: &mut Table, forks: bool)
+        requires { RowAsked self forks }
+        ensures { Writes (RowMade self.entry forks) table.old table.new }
+    {
+        let head = usize::from(forks);
+        let mut left = self;
+        let mut end = record_end(self.pattern, self.at);
+        while end != self.stop {
+            let own = alone(self.pattern, left.at, end);
+            let base = left.base + head;
+            let second = base + own.places;
+            let rest = left.places - head - own.places;
+            let next = left.joined(table, forks, own.places, second, rest);
+            let one = Part {
+                at: left.at,
+                stop: end,
+                first: left.first,
+                places: own.places,
+                groups: own.groups,
+                base,
+                next,
+                ..self
+            };
+            one.one(table);
+            left = Part {
+                at: end,
+                first: left.first + own.groups,
+                places: rest,
+                groups: left.groups - own.groups,
+                base: second,
+                ..left
+            };
+            end = record_end(self.pattern, end);
+        }
+        left.one(table);
+    }
 }

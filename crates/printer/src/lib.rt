@@ -1,62 +1,54 @@
-// What the programs read and print with (01, "Known answers", on pick). Bytes are gathered in a lent buffer and written to standard output when it is full.
-// Each function takes the buffer and how many bytes are gathered in it, and answers how many there are then. The number FAILED says
-// that a write failed: then nothing more is gathered or written, so that what was written is the beginning of the output.
+// What the programs read and print with (01, "Known answers", on pick). Bytes are gathered in a printer's buffer and written to standard output when it is full.
+// After a failed write nothing more is gathered or written, so that what was written is the beginning of the output.
 // A function that reads or writes is given the handle of the stream, which `main` has from the system.
-// Where `coded` is true, each byte is printed as its two hexadecimal digits.
 #![tactic(auto)]
 
 mod answers;
 mod input;
 
-ghost use Rattle.std.specs.Prelude.{◌≤◌, length};
+ghost use Rattle.std.specs.Prelude.{ℕ, ◌≤◌, ◌<◌, ◌≡◌, ◌↔◌, ◌⊎◌, Option, None, Some, IsNone, IsTrue, IfSome};
 ghost use Rattle.printer.specs.Gathered.{Gathered};
 
-pub use answers::{found, outcome, refusal, row};
 pub use input::{read, read_full};
 use std::io::{Error, ErrorKind, Stderr, Stdout};
+use std::marker::Model;
 use std::thread;
 
-// What stands for a number of bytes where they could not be read or written: more than any buffer has.
-pub const FAILED: usize = 18_446_744_073_709_551_615;
+// How many bytes are gathered before they are written.
+const BYTES: usize = 65_536;
 
 // How many calls of the system are made for one reading, or for one buffer that is written.
 const CALLS: usize = 1_000_000;
 
 // Whether a call that failed is to be made again: it was interrupted, or came before the other side was ready.
 fn again(error: Error) -> bool {
-    let kind = error.kind();
-    if kind == ErrorKind::Interrupted {
-        return true;
-    }
-    if kind == ErrorKind::WouldBlock {
-        thread::yield_now();
-        return true;
-    }
-    false
-}
-
-// How far a slice is written after one more call.
-fn further(to: Stdout, s: &[u8], from: usize) -> usize
-    requires { from ≤ length s.now }
-{
-    match to.write_some(&s[from..]) {
-        Ok(got) => from + got,
-        Err(error) => if again(error) { from } else { FAILED },
-    }
-}
-
-// Writes a slice to standard output, and answers whether all of it was written.
-fn written(to: Stdout, s: &[u8]) -> bool {
-    let mut from = 0;
-    let mut calls = CALLS;
-    while from < s.len() {
-        if calls == 0 {
-            return false;
+    match error.kind() {
+        ErrorKind::Interrupted => true,
+        ErrorKind::WouldBlock => {
+            thread::yield_now();
+            true
         }
-        from = further(to, s, from);
-        calls -= 1;
+        _ => false,
     }
-    from == s.len()
+}
+
+// Writes all of a slice to standard output, and answers whether that could be done.
+fn written(to: Stdout, s: &[u8]) -> bool {
+    let mut rest = s;
+    for _ in 0..CALLS {
+        if rest.is_empty() {
+            return true;
+        }
+        match to.write_some(rest) {
+            Ok(n) => rest = &rest[n..],
+            Err(error) => {
+                if !again(error) {
+                    return false;
+                }
+            }
+        }
+    }
+    rest.is_empty()
 }
 
 // A line on standard error: the program's name, and what could not be done.
@@ -65,131 +57,160 @@ fn complain(errors: Stderr, program: &[u8], words: &[u8]) {
     let _ = errors.write_all(words);
 }
 
-// Writes out what is gathered, which leaves nothing.
-#[tactic(auto, unfolding(crate::specs::Gathered::failures))]
-fn flush(to: Stdout, out: &[u8], at: usize) -> usize
-    ensures { Gathered at result }
-{
-    if at == FAILED {
-        return FAILED;
-    }
-    if out.len() < at {
-        return FAILED;
-    }
-    if written(to, &out[0..at]) { 0 } else { FAILED }
-}
-
-// Writes out what is left at the program's end, and says on standard error where not all of the output was written.
-pub fn finish(to: Stdout, errors: Stderr, out: &[u8], at: usize, program: &[u8]) -> usize
-    ensures { Gathered at result }
-{
-    let n = flush(to, out, at);
-    if n == FAILED {
-        complain(errors, program, b": standard output cannot be written\n");
-    }
-    n
-}
-
-// The line that stands last where the input could not be read, which standard error says too.
-pub fn unreadable(
+// Prints to standard output. Contracts see how many bytes are gathered; after a failed write there is no such number.
+// No Display: after an `Err` of `write!` a contract knows nothing of the printer, and `Gathered` is promised of each call, which may not change.
+#[derive(Drop)]
+pub struct Printer {
     to: Stdout,
-    errors: Stderr,
-    out: &mut [u8],
-    at: usize,
-    program: &[u8],
-    line: &[u8],
-) -> usize
-    ensures { Gathered at result }
-{
-    complain(errors, program, b": standard input cannot be read\n");
-    plain_all(to, out, at, line)
+    buffer: [u8; BYTES],
+    gathered: Option<usize>,
+    coded: bool,
 }
 
-// One byte more, as it is.
-#[tactic(auto, unfolding(crate::specs::Gathered::failures))]
-fn plain(to: Stdout, out: &mut [u8], at: usize, b: u8) -> usize
-    ensures { Gathered at result }
-{
-    if at < out.len() {
-        out[at] = b;
-        at + 1
-    } else {
-        let n = flush(to, out, at);
-        if n < out.len() {
-            out[n] = b;
-            n + 1
-        } else {
-            FAILED
+impl Model for Printer {
+    ghost Value = { Option ℕ };
+
+    ghost view = { λ p. p.gathered };
+
+    ghost invariant = { λ p. IfSome p.gathered (λ n. n ≤ 65536) };
+}
+
+impl Printer {
+    pub fn new(to: Stdout) -> Printer
+        ensures { result ≡ Some 0 }
+    {
+        Printer {
+            to,
+            buffer: [0; BYTES],
+            gathered: Some(0),
+            coded: false,
         }
     }
-}
 
-// A byte as two hexadecimal digits in lower case.
-pub fn hex(to: Stdout, out: &mut [u8], at: usize, b: u8) -> usize
-    ensures { Gathered at result }
-{
-    let mut text = [0u8; 16];
-    let k = io::hex(wide(b), 2, &mut text);
-    plain_all(to, out, at, &text[..k])
-}
-
-fn wide(b: u8) -> u64 {
-    b as u64
-}
-
-// All bytes of a slice in order, as they are.
-fn plain_all(to: Stdout, out: &mut [u8], at: usize, s: &[u8]) -> usize
-    ensures { Gathered at result }
-{
-    let mut n = at;
-    let mut i = 0;
-    while i < s.len() {
-        n = plain(to, out, n, s[i]);
-        i += 1;
+    // Says whether bytes are printed as their two hexadecimal digits each from now on.
+    pub fn set_coded(&mut self, coded: bool)
+        ensures { self.new ≡ self.old }
+    {
+        self.coded = coded;
     }
-    n
-}
 
-// All bytes of a slice in hexadecimal digits, in order.
-fn coded_all(to: Stdout, out: &mut [u8], at: usize, s: &[u8]) -> usize
-    ensures { Gathered at result }
-{
-    let mut n = at;
-    let mut i = 0;
-    while i < s.len() {
-        n = hex(to, out, n, s[i]);
-        i += 1;
+    // Whether a write failed.
+    pub fn failed(&self) -> bool
+        ensures { IsTrue result ↔ IsNone self.now }
+    {
+        self.gathered.is_none()
     }
-    n
-}
 
-// The bytes of a slice, in order.
-pub fn bytes(to: Stdout, out: &mut [u8], at: usize, s: &[u8], coded: bool) -> usize
-    ensures { Gathered at result }
-{
-    if coded {
-        coded_all(to, out, at, s)
-    } else {
-        plain_all(to, out, at, s)
+    // Writes out what is gathered, which leaves nothing.
+    #[tactic(auto, unfolding(crate::specs::Gathered::failures))]
+    #[cold]
+    fn flush(&mut self)
+        ensures gathered { Gathered self.old self.new }
+        ensures empty { (self.new ≡ Some 0) ⊎ (self.new ≡ None) }
+    {
+        if let Some(n) = self.gathered {
+            self.gathered = written(self.to, &self.buffer[..n]).then_some(0);
+        }
     }
-}
 
-// A number in decimal digits.
-pub fn decimal(to: Stdout, out: &mut [u8], at: usize, n: u64, coded: bool) -> usize
-    ensures { Gathered at result }
-{
-    let mut text = [0u8; 20];
-    let k = io::decimal(n, &mut text);
-    bytes(to, out, at, &text[..k], coded)
-}
+    // Where the next byte goes, for which a full buffer is written out.
+    #[tactic(auto, unfolding(crate::specs::Gathered::failures))]
+    #[inline]
+    fn room(&mut self) -> Option<usize>
+        ensures gathered { Gathered self.old self.new }
+        ensures told { result ≡ self.new }
+        ensures inside { IfSome result (λ n. n < 65536) }
+    {
+        if self.gathered == Some(BYTES) {
+            self.flush();
+        }
+        self.gathered
+    }
 
-// A byte string as hexadecimal digits, the empty one as a dot.
-pub fn byte_string(to: Stdout, out: &mut [u8], at: usize, s: &[u8]) -> usize
-    ensures { Gathered at result }
-{
-    if s.len() == 0 {
-        plain(to, out, at, b'.')
-    } else {
-        coded_all(to, out, at, s)
+    // All bytes of a slice in order, as they are.
+    #[tactic(auto, unfolding(crate::specs::Gathered::failures))]
+    #[inline]
+    fn plain(&mut self, s: &[u8])
+        ensures { Gathered self.old self.new }
+    {
+        let mut rest = s;
+        // no `for`: how much a turn gathers is known by the room alone
+        while !rest.is_empty() {
+            let Some(n) = self.room() else {
+                return;
+            };
+            let (now, later) = rest.split_at(rest.len().min(BYTES - n));
+            self.buffer[n..n + now.len()].copy_from_slice(now);
+            self.gathered = Some(n + now.len());
+            rest = later;
+        }
+    }
+
+    // A byte as two hexadecimal digits in lower case.
+    pub fn hex(&mut self, b: u8)
+        ensures { Gathered self.old self.new }
+    {
+        let mut text = [0u8; 16];
+        let k = io::hex(u64::from(b), 2, &mut text);
+        self.plain(&text[..k]);
+    }
+
+    // All bytes of a slice in hexadecimal digits, in order.
+    fn digits(&mut self, s: &[u8])
+        ensures { Gathered self.old self.new }
+    {
+        for &b in s {
+            self.hex(b);
+        }
+    }
+
+    // The bytes of a slice, in order.
+    #[inline]
+    pub fn bytes(&mut self, s: &[u8])
+        ensures { Gathered self.old self.new }
+    {
+        if self.coded {
+            self.digits(s);
+        } else {
+            self.plain(s);
+        }
+    }
+
+    // A number in decimal digits.
+    pub fn decimal(&mut self, n: u64)
+        ensures { Gathered self.old self.new }
+    {
+        let mut text = [0u8; 20];
+        let k = io::decimal(n, &mut text);
+        self.bytes(&text[..k]);
+    }
+
+    // A byte string as hexadecimal digits, the empty one as a dot.
+    pub fn byte_string(&mut self, s: &[u8])
+        ensures { Gathered self.old self.new }
+    {
+        if s.is_empty() {
+            self.plain(b".");
+        } else {
+            self.digits(s);
+        }
+    }
+
+    // Writes out what is left at the program's end, and says on standard error where not all of the output was written.
+    pub fn finish(&mut self, errors: Stderr, program: &[u8])
+        ensures { Gathered self.old self.new }
+    {
+        self.flush();
+        if self.failed() {
+            complain(errors, program, b": standard output cannot be written\n");
+        }
+    }
+
+    // The line that stands last where the input could not be read, which standard error says too.
+    pub fn unreadable(&mut self, errors: Stderr, program: &[u8], line: &[u8])
+        ensures { Gathered self.old self.new }
+    {
+        complain(errors, program, b": standard input cannot be read\n");
+        self.plain(line);
     }
 }

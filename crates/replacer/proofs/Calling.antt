@@ -25,7 +25,7 @@ use Rattle.turns.specs.Accepted.{accepted_or, pieces_of, Right}
 use Rattle.replacer.specs.Given.{tree_of, Replaceable, whole_of}
 use Rattle.replacer.specs.Scans.{Measures}
 use Rattle.replacer.specs.Promise.{Replaces}
-use Rattle.replacer.proofs.Scanning.{ready_tree, ready_accepts}
+use Rattle.replacer.proofs.Scanning.{ready_tree}
 
 -- ---- what was asked before
 
@@ -146,15 +146,15 @@ module _ (pattern template line lent : List ℕ) where
 
 -- ---- what was measured decides between 13 and the scan's output
 
-module _ {pattern code : List ℕ} {places deep : ℕ} {template line : List ℕ} (given : Replaceable pattern code places deep template line) {m : Measured}
+module _ {pattern template line : List ℕ} (given : Replaceable pattern template line) {m : Measured}
     (measured : Measures pattern template line m) {lent : List ℕ} where
   pub refuses_measured : length lent < m.length → Replaces pattern template line lent (Replaced.Refused output_too_long 0) lent
   refuses_measured long =
-      refuses_output pattern template line lent (ready_accepts given.ready) given.right given.low given.short (omega (arith, measured.long))
+      refuses_output pattern template line lent given.accepts given.right given.low given.short (omega (arith, measured.long))
 
   pub replaces_measured : m.length ≤ length lent → {after : List ℕ}
       → after ≡ (whole_of pattern template line).output ++ drop (length (whole_of pattern template line).output) lent
       → Replaces pattern template line lent (Replaced.Done m.length m.replacements m.steps) after
   replaces_measured room {after} wrote =
-      replaces pattern template line lent (ready_accepts given.ready) given.right given.low given.short (omega (arith, measured.long))
+      replaces pattern template line lent given.accepts given.right given.low given.short (omega (arith, measured.long))
       m.length m.replacements m.steps measured.long measured.replaced measured.stepped after wrote

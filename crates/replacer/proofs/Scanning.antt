@@ -16,7 +16,7 @@ use Rattle.paper.proofs.replacing.ReplaceBound.{most_sum, replace_all_most}
 use Rattle.paper.specs.ScanTurn.{turn_bytes, TurnFits}
 use Rattle.paper.proofs.replacing.ScanWays.{turn_count, turn_rest, ended, turn_fits, scan_from, scan_whole, scan_turn}
 use Rattle.paper.proofs.replacing.ScanLengths.{most_output, replace_all_short}
-use Rattle.machine.specs.Machine.{Ready, Runnable}
+use Rattle.machine.specs.Machine.{Ready}
 use Rattle.turns.specs.declared.Turn.{Turn}
 use Rattle.turns.specs.Accepted.{accepted_or, pieces_of, Right}
 use Rattle.replacer.specs.Given.{tree_of, whole_of}
@@ -24,38 +24,6 @@ use Rattle.turns.specs.Turn.{last_of, as_turn}
 use Rattle.turns.specs.Appended.{Appended}
 use Rattle.replacer.specs.Scans.{Turns, Measures}
 use Rattle.turns.proofs.Written.{nothing_written, written_on}
-
--- ---- the scratch that is lent keeps its lengths
-
-pub record Kept (a b c d a' b' c' d' : List ℕ) : Type 0 where
-  pub first : length a' ≡ length a
-  pub second : length b' ≡ length b
-  pub third : length c' ≡ length c
-  pub fourth : length d' ≡ length d
-
-pub kept_start : {a b c d : List ℕ} → Kept a b c d a b c d
-kept_start = record { first = refl; second = refl; third = refl; fourth = refl }
-
-pub kept_on : {a b c d a' b' c' d' a'' b'' c'' d'' : List ℕ} → Kept a b c d a' b' c' d' → length a'' ≡ length a' → length b'' ≡ length b' → length c'' ≡ length c'
-    → length d'' ≡ length d' → Kept a b c d a'' b'' c'' d''
-kept_on k e f g h = record { first = e ∙ k.first; second = f ∙ k.second; third = g ∙ k.third; fourth = h ∙ k.fourth }
-
--- a machine that can run from the line's start can run from any position of it, with scratch as long
-pub runs_on : {pattern code line : List ℕ} {places deep : ℕ} {a b c d : List ℕ} → Runnable pattern code line true places deep 0 a b c d
-    → {from : ℕ} → from ≤ length line → {a' b' c' d' : List ℕ} → Kept a b c d a' b' c' d' → Runnable pattern code line true places deep from a' b' c' d'
-runs_on r inside kept =
-    record {
-      ready = r.ready;
-      short = r.short;
-      starts = inside;
-      scratch =
-          record {
-            seen_long = omega (arith, r.scratch.seen_long, kept.first);
-            taken_long = omega (arith, r.scratch.taken_long, kept.second);
-            lists_long = omega (arith, r.scratch.lists_long, kept.third);
-            pending_long = omega (arith, r.scratch.pending_long, kept.fourth);
-          };
-    }
 
 -- ---- what a machine that is ready says of the pattern
 

@@ -7,13 +7,16 @@ use mathlib.Core.Option.{Option, none, some, map}
 use native.Mathlib.Omega.{arith}
 use lib.ListN.{length, drop}
 use Rattle.paper.specs.Limits.{line_bytes}
-use Rattle.paper.specs.Rows.{Rows, row_start, row_end}
+use Rattle.paper.specs.Rows.{Rows, no_rows, row_start, row_end}
 use Rattle.paper.specs.Match.{search, search_steps, is_match, rows_or_none}
 use Rattle.paper.specs.Replace.{moved}
 use Rattle.paper.proofs.reading.AnswerRows.{Answered}
 use Rattle.paper.proofs.replacing.ScanTurns.{Ahead, match_ahead}
 use Rattle.paper.specs.ScanTurn.{turn_of}
+use Rattle.std.specs.Prelude.{is_some, unwrap_or}
+use Rattle.run.specs.declared.Ran.{Ran}
 use Rattle.machine.specs.Machine.{Ready, Gives, SearchGives}
+use Rattle.machine.proofs.Running.{match_read, rows_written}
 use Rattle.turns.specs.declared.Turn.{Turn}
 use Rattle.replacer.specs.Given.{tree_of}
 use Rattle.turns.specs.Turn.{last_of, found_of, Finds, as_turn}
@@ -44,24 +47,31 @@ finds_by n (some found) matched rows short m r ends =
       none_there = λ is. let z : ◌≡◌ {A = ℕ} 0 1 = cc in absurd (omega arith);
     }
 
-module _ {pattern code : List ℕ} {places deep : ℕ} (ready : Ready pattern code true places deep) (line : List ℕ) (from : ℕ) (matched : Bool) (steps : ℕ) (rows : Rows)
-    (gives : SearchGives pattern line from matched steps rows) (short : length line ≤ line_bytes) (inside : from ≤ length line) where
-  given : Gives (map (moved from) (search (tree_of pattern) (drop from line))) (search_steps (tree_of pattern) (drop from line)) matched steps rows
+module _ {pattern code : List ℕ} {places deep : ℕ} (ready : Ready pattern code true places deep) (line : List ℕ) (from : ℕ) (ran : Ran)
+    (gives : SearchGives pattern line from ran) (short : length line ≤ line_bytes) (inside : from ≤ length line)
+    (matched : Bool) (rows : Rows) (is_matched : matched ≡ is_some ran.rows) (are_rows : rows ≡ unwrap_or ran.rows no_rows) where
+  abbrev given : Gives (map (moved from) (search (tree_of pattern) (drop from line))) (search_steps (tree_of pattern) (drop from line)) ran
   given = gives (tree_of pattern) (ready_accepts ready)
+
+  matched_is : matched ≡ is_match (map (moved from) (search (tree_of pattern) (drop from line)))
+  matched_is = is_matched ∙ match_read ran.rows ∙ ap is_match given.rows_are
+
+  rows_are : rows ≡ rows_or_none (map (moved from) (search (tree_of pattern) (drop from line)))
+  rows_are = are_rows ∙ rows_written ran.rows ∙ ap rows_or_none given.rows_are
 
   -- what a search from a position leaves
   pub search_finds : Finds (length line) matched rows
   search_finds =
-      finds_by (length line) (map (moved from) (search (tree_of pattern) (drop from line))) matched rows short given.matched_is given.rows_are
+      finds_by (length line) (map (moved from) (search (tree_of pattern) (drop from line))) matched rows short matched_is rows_are
       (ends_moved (length line) from (search (tree_of pattern) (drop from line)) (match_ahead (tree_of pattern) line from short inside))
 
   -- and the turn that it makes
-  pub search_turns : (last : ℕ) (t : Turn) → (as_turn t ≡ turn_of (length line) (last_of last) (found_of matched rows)) × (t.steps ≡ steps) → Turns pattern line from last t
+  pub search_turns : (last : ℕ) (t : Turn) → (as_turn t ≡ turn_of (length line) (last_of last) (found_of matched rows)) × (t.steps ≡ ran.steps) → Turns pattern line from last t
   search_turns last t is =
       record {
         same =
             is.0
             ∙ ap (turn_of (length line) (last_of last))
-            (found_same (map (moved from) (search (tree_of pattern) (drop from line))) matched rows given.matched_is given.rows_are);
+            (found_same (map (moved from) (search (tree_of pattern) (drop from line))) matched rows matched_is rows_are);
         counted = is.1 ∙ given.steps_are;
       }

@@ -5,11 +5,11 @@ mod scans;
 
 ghost use Rattle.std.specs.Prelude.{◌≡◌, Bool};
 ghost use Rattle.paper.specs.Pattern.{groups};
-ghost use Rattle.machine.specs.Machine.{Ready, Scratch, fits_small};
+ghost use Rattle.machine.specs.Scratch.{Roomy};
 ghost use Rattle.replacer.specs.Given.{tree_of, Replaceable};
 ghost use Rattle.replacer.specs.Promise.{Replaces};
 
-use machine::{Built, Machine, Small};
+use machine::{Built, LargeScratch, Machine, Scratch, SmallScratch};
 use pattern::{Line, Refusal};
 use template::References;
 
@@ -29,33 +29,25 @@ pub enum Replaced {
 
 // Refusal 13, else the output in the buffer, in lent scratch: the scan is measured before the first byte is written.
 fn replace_in(
-    pattern: &[u8],
-    code: &[u16],
-    places: usize,
-    depth: usize,
+    machine: Machine,
     template: &[u8],
     line: &[u8],
-    seen: &mut [u16],
-    taken: &mut [u16],
-    lists: &mut [u16],
-    pending: &mut [u16],
+    scratch: &mut Scratch,
     buffer: &mut [u8],
 ) -> Replaced
-    requires { Replaceable pattern.now code.now places depth template.now line.now × Scratch places depth seen.old taken.old lists.old pending.old }
-    ensures { Replaces pattern.now template.now line.now buffer.old result buffer.new }
+    requires given { Replaceable machine.pattern.now template.now line.now }
+    requires built { machine.searches ≡ Bool.true }
+    requires roomy { Roomy machine.places machine.depth scratch.old }
+    ensures { Replaces machine.entry.pattern.now template.now line.now buffer.old result buffer.new }
 {
-    let measured = scans::measure(
-        pattern, code, places, depth, template, line, seen, taken, lists, pending,
-    );
+    let measured = scans::measure(machine, template, line, scratch);
     if buffer.len() < measured.length {
         return Replaced::Refused {
             number: Refusal::OutputTooLong as usize,
             place: 0,
         };
     }
-    scans::write(
-        pattern, code, places, depth, template, line, seen, taken, lists, pending, buffer,
-    );
+    scans::write(machine, template, line, scratch, buffer);
     Replaced::Done {
         length: measured.length,
         replacements: measured.replacements,
@@ -63,103 +55,42 @@ fn replace_in(
     }
 }
 
-// The same in scratch of its own, for the largest machine.
-fn replace_large(
-    pattern: &[u8],
-    code: &[u16],
-    places: usize,
-    depth: usize,
-    template: &[u8],
-    line: &[u8],
-    buffer: &mut [u8],
-) -> Replaced
-    requires { Replaceable pattern.now code.now places depth template.now line.now }
-    ensures { Replaces pattern.now template.now line.now buffer.old result buffer.new }
-{
-    let mut seen = [0u16; Machine::PAIRS];
-    let mut taken = [0u16; Machine::PLACES];
-    let mut lists = [0u16; Machine::LISTS];
-    let mut pending = [0u16; Machine::PENDING];
-    replace_in(
-        pattern,
-        code,
-        places,
-        depth,
-        template,
-        line,
-        &mut seen,
-        &mut taken,
-        &mut lists,
-        &mut pending,
-        buffer,
-    )
-}
-
-// The same for a small one.
-fn replace_small(
-    pattern: &[u8],
-    code: &[u16],
-    places: usize,
-    depth: usize,
-    template: &[u8],
-    line: &[u8],
-    buffer: &mut [u8],
-) -> Replaced
-    requires { Replaceable pattern.now code.now places depth template.now line.now × (fits_small places depth ≡ Bool.true) }
-    ensures { Replaces pattern.now template.now line.now buffer.old result buffer.new }
-{
-    let mut seen = [0u16; Small::PAIRS];
-    let mut taken = [0u16; Small::PLACES];
-    let mut lists = [0u16; Small::LISTS];
-    let mut pending = [0u16; Small::PENDING];
-    replace_in(
-        pattern,
-        code,
-        places,
-        depth,
-        template,
-        line,
-        &mut seen,
-        &mut taken,
-        &mut lists,
-        &mut pending,
-        buffer,
-    )
-}
-
 // The same in scratch as large as the machine asks for.
-fn replace_within(
-    pattern: &[u8],
-    code: &[u16],
-    places: usize,
-    depth: usize,
-    template: &[u8],
-    line: &[u8],
-    buffer: &mut [u8],
-) -> Replaced
-    requires { Replaceable pattern.now code.now places depth template.now line.now }
-    ensures { Replaces pattern.now template.now line.now buffer.old result buffer.new }
+fn replace_within(machine: Machine, template: &[u8], line: &[u8], buffer: &mut [u8]) -> Replaced
+    requires given { Replaceable machine.pattern.now template.now line.now }
+    requires built { machine.searches ≡ Bool.true }
+    ensures { Replaces machine.entry.pattern.now template.now line.now buffer.old result buffer.new }
 {
-    if machine::is_small(places, depth) {
-        replace_small(pattern, code, places, depth, template, line, buffer)
+    if machine::is_small(machine.places, machine.depth) {
+        replace_in(
+            machine,
+            template,
+            line,
+            &mut SmallScratch::new().lend(),
+            buffer,
+        )
     } else {
-        replace_large(pattern, code, places, depth, template, line, buffer)
+        replace_in(
+            machine,
+            template,
+            line,
+            &mut LargeScratch::new().lend(),
+            buffer,
+        )
     }
 }
 
 // Refusals 9, 10 and 11, then the rest.
 fn replace_built(
-    pattern: &[u8],
-    code: &[u16],
-    places: usize,
-    depth: usize,
+    machine: Machine,
     count: usize,
     template: &[u8],
     line: &[u8],
     buffer: &mut [u8],
 ) -> Replaced
-    requires { Ready pattern.now code.now Bool.true places depth × (count ≡ groups (tree_of pattern.now)) }
-    ensures { Replaces pattern.now template.now line.now buffer.old result buffer.new }
+    requires built { machine.searches ≡ Bool.true }
+    requires counted { count ≡ groups (tree_of machine.pattern.now) }
+    ensures { Replaces machine.entry.pattern.now template.now line.now buffer.old result buffer.new }
 {
     match template::references_within(template, count) {
         References::Wrong(place) => Replaced::Refused {
@@ -177,7 +108,7 @@ fn replace_built(
                     place: 0,
                 };
             }
-            replace_within(pattern, code, places, depth, template, line, buffer)
+            replace_within(machine, template, line, buffer)
         }
     }
 }
@@ -194,8 +125,15 @@ pub fn replace_all(pattern: &[u8], template: &[u8], line: &[u8], buffer: &mut [u
             places,
             depth,
             groups,
-        } => replace_built(
-            pattern, &code, places, depth, groups, template, line, buffer,
-        ),
+        } => {
+            let machine = Machine {
+                pattern,
+                code: &code,
+                searches: true,
+                places,
+                depth,
+            };
+            replace_built(machine, groups, template, line, buffer)
+        }
     }
 }

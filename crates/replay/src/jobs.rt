@@ -1,149 +1,65 @@
 // What pick prints for a job that is all there, as the digits of its bytes.
-ghost use Rattle.std.specs.Prelude.{◌≤◌, ◌<◌, length};
+ghost use Rattle.std.specs.Prelude.{◌≤◌, length};
 ghost use Rattle.printer.specs.Gathered.{Gathered};
 
-use job::{Job, Next};
+use job::{Body, Broken, Job};
 use pattern::Spans;
-use std::io::Stdout;
+use printer::Printer;
 
-// How far the lines of a job are printed.
-#[derive(Clone, Copy)]
-struct Step {
-    next: usize,
-    printed: usize,
-}
-
-// What a line's match found.
-fn print_found(
-    to: Stdout,
-    out: &mut [u8],
-    at: usize,
-    number: u64,
-    answer: matcher::Answer,
-    rows: [u16; Spans::NUMBERS],
-    groups: usize,
-) -> usize
-    ensures { Gathered at result }
+pub fn pick(job: &[u8], p: &mut Printer)
+    ensures { Gathered p.old p.new }
 {
-    match answer {
-        matcher::Answer::Refused {
-            number: refused,
-            place,
-        } => job::print_refused(to, out, at, refused, place, true),
-        matcher::Answer::Match { steps } => job::print_line(
-            to,
-            out,
-            at,
-            number,
-            true,
-            steps as u64,
-            rows,
-            groups,
-            true,
-        ),
-        matcher::Answer::NoMatch { steps } => job::print_line(
-            to,
-            out,
-            at,
-            number,
-            false,
-            steps as u64,
-            rows,
-            groups,
-            true,
-        ),
+    p.set_coded(true);
+    if print_job(job, p).is_err() {
+        job::print_broken(p);
     }
+    p.set_coded(false);
 }
 
-// The record at an offset behind the pattern.
-fn one_line(
-    bytes: &[u8],
-    from: usize,
-    body: &[u8],
-    groups: usize,
-    number: u64,
-    to: Stdout,
-    out: &mut [u8],
-    at: usize,
-) -> Step
-    requires { from < length bytes.now }
-    ensures { (from < result.next) × (result.next ≤ length bytes.now) }
+// The whole job.
+fn print_job(bytes: &[u8], p: &mut Printer) -> Result<(), Broken>
+    ensures { Gathered p.old p.new }
 {
-    match job::next_record(bytes, from, bytes.len(), Job::LINE) {
-        Next::End => Step {
-            next: bytes.len(),
-            printed: at,
-        },
-        Next::Broken => Step {
-            next: bytes.len(),
-            printed: job::print_broken(to, out, at, true),
-        },
-        Next::Body { start, end } => {
-            let mut rows = Spans::absent_table();
-            let answer = matcher::whole_match(body, &bytes[start..end], &mut rows);
-            Step {
-                next: end,
-                printed: print_found(to, out, at, number, answer, rows, groups),
-            }
+    let Some(Body { start, end }) = job::next_record(bytes, 0, bytes.len(), Job::PATTERN)? else {
+        return Err(Broken {});
+    };
+    let pattern = &bytes[start..end];
+    match pattern::check(pattern) {
+        Ok(numbers) => {
+            job::print_numbers(p, numbers.places, numbers.depth, numbers.groups);
+            print_lines(bytes, end, pattern, numbers.groups, p)
+        }
+        Err(refused) => {
+            job::print_refused(p, refused.refusal.number(), refused.place);
+            Ok(())
         }
     }
 }
 
 // The lines of a job from an offset on.
-fn all_lines(
+fn print_lines(
     bytes: &[u8],
     from: usize,
-    body: &[u8],
+    pattern: &[u8],
     groups: usize,
-    to: Stdout,
-    out: &mut [u8],
-    at: usize,
-) -> usize
+    p: &mut Printer,
+) -> Result<(), Broken>
     requires { from ≤ length bytes.now }
+    ensures { Gathered p.old p.new }
 {
     let mut next = from;
-    let mut printed = at;
-    let mut number: u64 = 0;
-    while next < bytes.len() {
+    let mut number = 0u64;
+    while let Some(Body { start, end }) = job::next_record(bytes, next, bytes.len(), Job::LINE)? {
         number += 1;
-        let step = one_line(bytes, next, body, groups, number, to, out, printed);
-        next = step.next;
-        printed = step.printed;
-    }
-    printed
-}
-
-// The job behind its pattern.
-fn with_pattern(
-    bytes: &[u8],
-    from: usize,
-    body: &[u8],
-    to: Stdout,
-    out: &mut [u8],
-    at: usize,
-) -> usize
-    requires { from ≤ length bytes.now }
-{
-    match pattern::check(body) {
-        pattern::Answer::Refused { number, place } => job::print_refused(
-            to, out, at, number, place, true,
-        ),
-        pattern::Answer::Accepted {
-            places,
-            depth,
-            groups,
-        } => {
-            let n = job::print_numbers(to, out, at, places, depth, groups, true);
-            all_lines(bytes, from, body, groups, to, out, n)
+        let mut rows = Spans::absent_table();
+        match matcher::whole_match(pattern, &bytes[start..end], &mut rows) {
+            matcher::Answer::Refused { number, place } => job::print_refused(p, number, place),
+            matcher::Answer::Match { steps } => {
+                job::print_line(p, number, Some(rows), steps, groups);
+            }
+            matcher::Answer::NoMatch { steps } => job::print_line(p, number, None, steps, groups),
         }
+        next = end;
     }
-}
-
-// The whole job.
-pub fn picked(bytes: &[u8], to: Stdout, out: &mut [u8], at: usize) -> usize {
-    match job::next_record(bytes, 0, bytes.len(), Job::PATTERN) {
-        Next::End => job::print_broken(to, out, at, true),
-        Next::Broken => job::print_broken(to, out, at, true),
-        Next::Body { start, end } => with_pattern(bytes, end, &bytes[start..end], to, out, at),
-    }
+    Ok(())
 }

@@ -10,6 +10,8 @@ ghost use Rattle.template.specs.Answer as piece;
 ghost use Rattle.replacer.specs.Answer as replaced;
 ghost use Rattle.telling.specs.Told.{Numbered, Tells, check_numbers, found_numbers, span_numbers, replaced_numbers, built_numbers};
 
+use pattern::{Numbers, Refused};
+
 // The status of an answer, which is no refusal's number.
 #[derive(Clone, Copy)]
 struct Status {}
@@ -49,17 +51,13 @@ fn three(a: usize, b: usize, c: usize, out: &mut [u64]) -> u32
 }
 
 // What checking answered.
-pub fn tell_checked(answer: pattern::Answer, out: &mut [u64]) -> u32
+pub fn tell_checked(answer: Result<Numbers, Refused>, out: &mut [u64]) -> u32
     requires { Numbered (checked.answer_of answer) × (3 ≤ length out.old) }
     ensures { Tells (check_numbers (checked.answer_of answer)) out.old result out.new }
 {
     match answer {
-        pattern::Answer::Refused { number, place } => refusal(number, place, out),
-        pattern::Answer::Accepted {
-            places,
-            depth,
-            groups,
-        } => three(places, depth, groups, out),
+        Err(refused) => refusal(refused.refusal.number(), refused.place, out),
+        Ok(numbers) => three(numbers.places, numbers.depth, numbers.groups, out),
     }
 }
 

@@ -4,4 +4,4 @@ use Rattle.replacer.proofs.Calling.{replaces_measured}
 use Rattle.replacer.proofs.replace_in.Goals as goal
 
 pub returns : goal.returns
-returns c = replaces_measured c.requires.0 c.measure-measured.ensures (omega (arith, c.if-buffer-measured.false)) c.write.ensures
+returns c = replaces_measured c.requires.given c.measure-measured.ensures.measures (omega (arith, c.if-buffer-measured.false)) c.write.ensures

@@ -2,6 +2,5 @@
 use Rattle.places.proofs.Adding.{alone_counted}
 use Rattle.places.proofs.sums.alone.Goals as goal
 
-pub returns-then-kind-lt-GROUP : goal.returns-then-kind-lt-GROUP
-returns-then-kind-lt-GROUP c =
-    alone_counted c.requires.counting c.requires.ends c.number_at-kind.ensures.0 c.if-kind-lt-GROUP.true c.own_places.ensures.0 c.sum-places.ensures
+pub returns-in-Nothing : goal.returns-in-Nothing
+returns-in-Nothing c = alone_counted c.requires.counting c.requires.ends c.known_kind-kind.ensures c.in-Nothing.is c.own_places.ensures.0
