@@ -18,15 +18,6 @@ pub struct Ran {
     pub rows: Option<[u16; Spans::NUMBERS]>,
 }
 
-// Four lent memories: the stamps of the pairs met and of the followers taken, two lists of threads, and the branches that wait.
-#[derive(Drop)]
-pub struct Scratch<'a> {
-    pub seen: &'a mut [u16],
-    pub taken: &'a mut [u16],
-    pub lists: &'a mut [u16],
-    pub pending: &'a mut [u16],
-}
-
 // The threads of a list at one position, in order, until one wins; whether one does.
 fn step(
     table: Table,
@@ -51,16 +42,18 @@ fn step(
 }
 
 // The machine from a position of the line on, started with one thread at the first place. The threads that one position carries are the next one's.
-pub fn run<'a>(table: Table, line: &[u8], start: u16, scratch: Scratch<'a>) -> Ran
-    requires { Running table.code.now table.pattern.now line.now table.places start scratch.seen.now scratch.taken.now scratch.lists.now scratch.pending.now }
-    ensures { Runs table.entry.code.now table.entry.pattern.now line.now table.entry.places start (length scratch.entry.seen.now) result.steps result.rows }
+pub fn run<'a>(
+    table: Table,
+    line: &[u8],
+    start: u16,
+    seen: &'a mut [u16],
+    taken: &'a mut [u16],
+    lists: &'a mut [u16],
+    pending: &mut [u16],
+) -> Ran
+    requires { Running table.code.now table.pattern.now line.now table.places start seen.old taken.old lists.old pending.old }
+    ensures { Runs table.entry.code.now table.entry.pattern.now line.now table.entry.places start (length seen.old) result.steps result.rows }
 {
-    let Scratch {
-        seen,
-        taken,
-        lists,
-        pending,
-    } = scratch;
     seen.fill(0);
     taken.fill(0);
     let long = threads::THREAD * (table.places + 1);

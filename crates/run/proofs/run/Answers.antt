@@ -17,7 +17,7 @@ loop-p-init c =
     ∙ (append-nil c.store.new.list ∙ (c.store.ensures ∙ ap (λ (l : List ℕ). stored l 0 0 no_rows) (take_all (length front) front (omega arith)))) in
     record {
       position = rw c.from-p.ensures (position_first c.args.table.code.now c.args.table.pattern.now c.args.line.now c.args.table.places c.args.start
-          c.args.scratch.seen.now c.args.scratch.taken.now c.args.scratch.lists.now c.args.scratch.pending.now c.requires
+          c.args.seen.now c.args.taken.now c.args.lists.now c.args.pending.now c.requires
           c.fill.new.self c.fill-2.new.self front (c.store.new.list ++ drop (length front) front) c.split_at_mut-current.result.1.now
           (c.fill.ensures.after (λ y e. e)) (c.fill-2.ensures.after (λ y e. e)) c.split_at_mut-current.ensures.front_len current c.split_at_mut-current.ensures.back_len);
       none_carried = refl;
