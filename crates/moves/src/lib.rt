@@ -107,15 +107,20 @@ pub fn lead(
     ensures { Leads here.kind here.a here.n at places floor rows.old result rows.new }
 {
     match here.kind {
-        OPEN => rows[2 * here.a] = at,
-        CLOSE => rows[2 * here.a + 1] = at,
-        END => return (floor == 0).then_some(0),
-        _ => threads::clear_rows(rows, here.a, here.n),
-    }
-    if here.kind == BEGIN_OPTIONAL {
-        Some(floor + places)
-    } else {
-        Some(floor)
+        OPEN => {
+            rows[2 * here.a] = at;
+            Some(floor)
+        }
+        CLOSE => {
+            rows[2 * here.a + 1] = at;
+            Some(floor)
+        }
+        END => (floor == 0).then_some(0),
+        _ => {
+            threads::clear_rows(rows, here.a, here.n);
+            let raised = here.kind == BEGIN_OPTIONAL;
+            Some(if raised { floor + places } else { floor })
+        }
     }
 }
 

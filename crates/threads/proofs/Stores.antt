@@ -9,6 +9,15 @@ use Rattle.paper.specs.Rows.{Rows}
 use Rattle.paper.specs.Machine.{Thread, at}
 use Rattle.threads.specs.Threads.{stored, rows_from, threads}
 
+-- what was copied number by number is that part of the list
+pub copied : (rows list : List ℕ) (b : ℕ) → length rows ≡ 20 → b + 20 ≤ length list
+    → ((i : ℕ) → i < 20 → get_or rows i 0 ≡ get_or list (b + i) 0) → rows ≡ take 20 (drop b list)
+copied rows list b long inside same =
+    let e : length rows ≡ length (take 20 (drop b list)) = omega (arith, length-take 20 (drop b list), length-drop b list) in
+    ext_get_or 0 rows (take 20 (drop b list)) e
+    (λ i h. let lt : i < 20 = omega arith in
+    same i lt ∙ (sym (get_or-drop b list i 0) ∙ sym (get_or-take 20 (drop b list) i 0 lt)))
+
 -- ---- a thread stored
 
 module _ (list : List ℕ) (b place : ℕ) (rows : Rows) (long : length rows ≡ 20) (room : b + 21 ≤ length list) where

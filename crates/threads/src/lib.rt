@@ -26,23 +26,36 @@ fn clear_some<const N: usize>(rows: &mut [u16; Spans::NUMBERS], first: usize)
     }
 }
 
-// Makes as many rows from the first on absent. A loop of so many turns would become a call, which the machine's steps pay for.
+// Makes up to three rows from one on absent.
+fn clear_under_four(rows: &mut [u16; Spans::NUMBERS], first: usize, count: usize)
+    requires { (count < 4) × (first + count ≤ row_count) }
+    ensures { rows.new ≡ clear first count rows.old }
+{
+    if count < 2 {
+        if count == 1 {
+            clear_some::<1>(rows, first);
+        }
+    } else {
+        clear_some::<2>(rows, first);
+        if count == 3 {
+            clear_some::<1>(rows, first + 2);
+        }
+    }
+}
+
+// Makes as many rows from the first on absent, the usual none or one first. A loop of so many turns would become a call, which the machine's steps pay for.
 pub fn clear_rows(rows: &mut [u16; Spans::NUMBERS], first: usize, count: usize)
     requires { first + count ≤ row_count }
     ensures { rows.new ≡ clear first count rows.old }
 {
-    match count {
-        0 => {}
-        1 => clear_some::<1>(rows, first),
-        2 => clear_some::<2>(rows, first),
-        3 => clear_some::<3>(rows, first),
-        4 => clear_some::<4>(rows, first),
-        5 => clear_some::<5>(rows, first),
-        6 => clear_some::<6>(rows, first),
-        7 => clear_some::<7>(rows, first),
-        8 => clear_some::<8>(rows, first),
-        9 => clear_some::<9>(rows, first),
-        _ => clear_some::<10>(rows, first),
+    if count < 4 {
+        clear_under_four(rows, first, count);
+    } else if count < 8 {
+        clear_some::<4>(rows, first);
+        clear_under_four(rows, first + 4, count - 4);
+    } else {
+        clear_some::<8>(rows, first);
+        clear_under_four(rows, first + 8, count - 8);
     }
 }
 
@@ -52,7 +65,9 @@ pub fn store(list: &mut [u16], offset: usize, place: u16, rows: [u16; Spans::NUM
     ensures { list.new ≡ stored list.old offset place rows }
 {
     list[offset] = place;
-    list[offset + 1..offset + THREAD].copy_from_slice(&rows);
+    for j in 0..Spans::NUMBERS {
+        list[offset + 1 + j] = rows[j];
+    }
 }
 
 // The rows of the thread at an offset of a list.
@@ -60,8 +75,11 @@ pub fn load(list: &[u16], offset: usize) -> [u16; Spans::NUMBERS]
     requires { offset + thread_numbers ≤ length list.now }
     ensures { result ≡ rows_from list.now offset }
 {
+    let b = offset + 1;
     let mut rows = [0; Spans::NUMBERS];
-    rows.copy_from_slice(&list[offset + 1..offset + THREAD]);
+    for j in 0..Spans::NUMBERS {
+        rows[j] = list[b + j];
+    }
     rows
 }
 

@@ -35,54 +35,44 @@ pub fn visit(
     ensures same_tables { SameTables state.old state.new }
     ensures visits { Visits table.entry.code.now table.entry.pattern.now position.ahead table.entry.places position.at start.place start.rows state.old.seen.now state.old.carried.taken.now state.old.carried.list.now state.old.carried.count state.old.steps state.new.seen.now state.new.carried.taken.now state.new.carried.list.now state.new.carried.count state.new.steps result }
 {
-    let mut thread = Thread { floor: 0, ..start };
+    let mut place = start.place;
+    let mut floor = 0;
+    let mut rows = start.rows;
     let mut waiting = Waiting {
         numbers: pending,
         count: 0,
     };
     loop {
-        if threads::mark(
-            state.seen,
-            thread.floor + thread.place,
-            position.at + 1,
-        ) {
+        if threads::mark(state.seen, floor + place, position.at + 1) {
             state.steps += 1;
-            let here = moves::place_at(table.code, thread.place);
+            let here = moves::place_at(table.code, place);
             if here.kind == moves::FORK {
+                let (preferred, other) = (here.next, here.a);
                 waiting.push(Thread {
-                    place: here.a,
-                    ..thread
+                    place: other,
+                    floor,
+                    rows,
                 });
-                thread.place = here.next;
+                place = preferred;
                 continue;
             }
             if here.kind < moves::SET {
-                let led = moves::lead(
-                    here,
-                    position.at,
-                    thread.floor,
-                    table.places,
-                    &mut thread.rows,
-                );
-                if let Some(floor) = led {
-                    thread.floor = floor;
-                    thread.place = here.next;
+                let led = moves::lead(here, position.at, floor, table.places, &mut rows);
+                if let Some(level) = led {
+                    floor = level;
+                    place = here.next;
                     continue;
                 }
-            } else if moves::settle(
-                table.pattern,
-                &mut state.carried,
-                here,
-                position,
-                thread.rows,
-            ) {
+            } else if moves::settle(table.pattern, &mut state.carried, here, position, rows) {
                 return true;
             }
         }
         // The thread has come to its end: the branch on top goes on.
-        match waiting.pop() {
-            Some(branch) => thread = branch,
-            None => return false,
-        }
+        let Some(branch) = waiting.pop() else {
+            return false;
+        };
+        place = branch.place;
+        floor = branch.floor;
+        rows = branch.rows;
     }
 }

@@ -64,7 +64,7 @@ loop-state-preserved-in-Some c =
     record {
       turn = turn_lead c.loop-state.invariant.turn c.mark.new.table c.mark.result c.mark.ensures c.if-mark.true
           here.result.kind here.result.next here.result.a here.result.n here.ensures
-          (omega (arith, c.if-here-eq-FORK.false)) c.if-here-lt-SET.true c.in-Some.floor c.lead-led.new.rows c.in-Some.ensures;
+          (omega (arith, c.if-here-eq-FORK.false)) c.if-here-lt-SET.true c.in-Some.level c.lead-led.new.rows c.in-Some.ensures;
       same_seen = c.loop-state.invariant.same_seen;
       same_taken = c.loop-state.invariant.same_taken;
       same_list = c.loop-state.invariant.same_list;
@@ -85,7 +85,7 @@ over : (c : Joined-mark) → Turn c.args.table.code.now c.args.table.pattern.now
     c.args.state.now.seen.now c.args.state.now.carried.taken.now c.args.state.now.carried.list.now c.args.pending.now
     c.args.start.place c.args.start.rows c.args.state.now.carried.count c.args.state.now.steps
     c.if-mark.state.seen.now c.if-mark.state.carried.taken.now c.if-mark.state.carried.list.now c.loop-state.waiting.numbers.now
-    c.loop-state.thread.place c.loop-state.thread.floor c.loop-state.thread.rows c.if-mark.state.carried.count c.if-mark.state.steps c.loop-state.waiting.count false
+    c.loop-state.place c.loop-state.floor c.loop-state.rows c.if-mark.state.carried.count c.if-mark.state.steps c.loop-state.waiting.count false
 over c =
     let t = c.loop-state.invariant.turn in
     elim c.if-mark.branch [
@@ -144,10 +144,10 @@ loop-state-preserved c =
       same_list = (kept o).2;
     }
 
-pub returns-in-None-clause-visits : goal.returns-in-None-clause-visits
-returns-in-None-clause-visits c = turn_last (over (goal.at.returns-in-None-clause-visits c).Joined-mark) c.in-None.ensures.popped.0
+pub returns-in_default-pop-clause-visits : goal.returns-in_default-pop-clause-visits
+returns-in_default-pop-clause-visits c = turn_last (over (goal.at.returns-in_default-pop-clause-visits c).Joined-mark) c.in_default-pop.ensures.popped.0
 
-pub returns-in-None-clause-same_tables : goal.returns-in-None-clause-same_tables
-returns-in-None-clause-same_tables c =
-    let o = (goal.at.returns-in-None-clause-same_tables c).Joined-mark in
+pub returns-in_default-pop-clause-same_tables : goal.returns-in_default-pop-clause-same_tables
+returns-in_default-pop-clause-same_tables c =
+    let o = (goal.at.returns-in_default-pop-clause-same_tables c).Joined-mark in
     ((kept o).0, (over o).long, ((kept o).1, (kept o).2))

@@ -7,9 +7,9 @@ abbrev pub invariant-loop-state : goal.invariant-loop-state
 invariant-loop-state l = record {
   turn : Turn l.table.code.now l.table.pattern.now l.position.ahead l.table.places l.position.at
       l.initial.state.seen.now l.initial.state.carried.taken.now l.initial.state.carried.list.now l.initial.waiting.numbers.now
-      l.initial.thread.place l.initial.thread.rows l.initial.state.carried.count l.initial.state.steps
+      l.initial.place l.initial.rows l.initial.state.carried.count l.initial.state.steps
       l.state.seen.now l.state.carried.taken.now l.state.carried.list.now l.waiting.numbers.now
-      l.thread.place l.thread.floor l.thread.rows l.state.carried.count l.state.steps l.waiting.count true;
+      l.place l.floor l.rows l.state.carried.count l.state.steps l.waiting.count true;
   same_seen : l.state.seen.ghost_name ≡ l.initial.state.seen.ghost_name;
   same_taken : l.state.carried.taken.ghost_name ≡ l.initial.state.carried.taken.ghost_name;
   same_list : l.state.carried.list.ghost_name ≡ l.initial.state.carried.list.ghost_name;
