@@ -26,20 +26,26 @@ fn clear_some<const N: usize>(rows: &mut [u16; Spans::NUMBERS], first: usize)
     }
 }
 
+// Makes a row absent, or none.
+fn clear_under_two(rows: &mut [u16; Spans::NUMBERS], first: usize, count: usize)
+    requires { (count < 2) × (first + count ≤ row_count) }
+    ensures { rows.new ≡ clear first count rows.old }
+{
+    if count == 1 {
+        clear_some::<1>(rows, first);
+    }
+}
+
 // Makes up to three rows from one on absent.
 fn clear_under_four(rows: &mut [u16; Spans::NUMBERS], first: usize, count: usize)
     requires { (count < 4) × (first + count ≤ row_count) }
     ensures { rows.new ≡ clear first count rows.old }
 {
     if count < 2 {
-        if count == 1 {
-            clear_some::<1>(rows, first);
-        }
+        clear_under_two(rows, first, count);
     } else {
         clear_some::<2>(rows, first);
-        if count == 3 {
-            clear_some::<1>(rows, first + 2);
-        }
+        clear_under_two(rows, first + 2, count - 2);
     }
 }
 
@@ -48,7 +54,9 @@ pub fn clear_rows(rows: &mut [u16; Spans::NUMBERS], first: usize, count: usize)
     requires { first + count ≤ row_count }
     ensures { rows.new ≡ clear first count rows.old }
 {
-    if count < 4 {
+    if count < 2 {
+        clear_under_two(rows, first, count);
+    } else if count < 4 {
         clear_under_four(rows, first, count);
     } else if count < 8 {
         clear_some::<4>(rows, first);
