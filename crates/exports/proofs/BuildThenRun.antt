@@ -5,8 +5,9 @@ use mathlib.Core.Path.{◌≡◌}
 use mathlib.Core.Bool.{Bool}
 use mathlib.Core.List.{List}
 use lib.ListN.{length}
-use Rattle.machine.specs.declared.Built.{Built}
-use Rattle.machine.specs.declared.Built.TheVariants.{Refused, Machine}
+use Rattle.std.specs.Prelude.{Result, Ok, Err}
+use Rattle.pattern.specs.declared.Numbers.{Numbers}
+use Rattle.pattern.specs.declared.Refused.{Refused}
 use Rattle.memory.specs.Memory.{machine_numbers, MachineOf, Runs, BuildsIn}
 use Rattle.memory.proofs.Keeping.{held_machine}
 use Rattle.telling.specs.Told.{answered, Tells, built_numbers}
@@ -18,10 +19,10 @@ not_short : {P : Type 0} {out after : List ℕ} → Untouched out answered after
 not_short u = let z : ◌≡◌ {A = ℕ} 0 255 = u.0 in absurd (omega arith)
 
 -- a refusal has another status, and any other answer leaves the machine
-machine_built : (pattern : List ℕ) (searches : Bool) (before machine : List ℕ) (r : Built) {out after : List ℕ} → BuildsIn pattern searches before machine r
+machine_built : (pattern : List ℕ) (searches : Bool) (before machine : List ℕ) (r : Result Numbers Refused) {out after : List ℕ} → BuildsIn pattern searches before machine r
     → Tells (built_numbers r) out answered after → MachineOf pattern machine
-machine_built pattern searches before machine (Refused number place) b t = absurd (omega (arith, t.numbered.0, t.status_is))
-machine_built pattern searches before machine (Machine places deep many) b t = held_machine b
+machine_built pattern searches before machine (Err e) b t = absurd (omega (arith, t.numbered.0, t.status_is))
+machine_built pattern searches before machine (Ok numbers) b t = held_machine b
 
 pub answered_build_runs : {pattern : List ℕ} {searches : Bool} {before machine out after : List ℕ} → BuildReplies pattern searches before machine out answered after
     → Runs pattern machine

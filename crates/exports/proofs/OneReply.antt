@@ -14,14 +14,12 @@ use Rattle.paper.specs.Pattern.{Pattern, all_places, depth, groups}
 use Rattle.paper.specs.Check.{pattern_of}
 use Rattle.paper.specs.Machine.{places_of}
 use Rattle.paper.specs.Tables.{decode}
-use Rattle.std.specs.Prelude.{Result}
+use Rattle.std.specs.Prelude.{Result, Ok, Err}
 use Rattle.pattern.specs.declared.Numbers.{Numbers}
 use Rattle.pattern.specs.declared.Refused as checking
 use Rattle.pattern.specs.Answer.{answer_of}
 use Rattle.pattern.proofs.Answering.{one_answer}
-use Rattle.matcher.specs.declared.Answer as matching
-use Rattle.machine.specs.declared.Built.{Built}
-use Rattle.machine.specs.declared.Built.TheVariants.{Refused, Machine}
+use Rattle.matcher.specs.declared.Found as matching
 use Rattle.matcher.specs.Answer as found
 use Rattle.machine.specs.Machine.{wrapped, first_group}
 use Rattle.matcher.specs.Promise.{Answers}
@@ -65,7 +63,7 @@ module _ {out : List ℕ} {status status' : ℕ} {after after' : List ℕ} where
     told_left numbers same t u = let one = told_one numbers same.0 t u in (one.0, one.1, same.1)
 
 -- a run answers as the one call or as the other
-answers_one : (searches : Bool) (pattern line lent : List ℕ) {a b : matching.Answer} {after after' : List ℕ} → Answers searches pattern line lent a after
+answers_one : (searches : Bool) (pattern line lent : List ℕ) {a b : Result matching.Found checking.Refused} {after after' : List ℕ} → Answers searches pattern line lent a after
     → Answers searches pattern line lent b after' → (a ≡ b) × (after ≡ after')
 answers_one false pattern line lent p q = one_match p q
 answers_one true pattern line lent p q = one_search p q
@@ -83,14 +81,14 @@ pub one_match_reply : {pattern line table table' table'' out : List ℕ} {status
     → (status ≡ status') × (after ≡ after') × (table' ≡ table'')
 one_match_reply {out = out} p q =
     by_length (length out) 2 (λ h. left_one (p.short h) (q.short h))
-    (λ h. let t = p.told h in let u = q.told h in told_left (λ (r : matching.Answer). found_numbers (found.answer_of r)) (one_match t.1 u.1) t.2 u.2)
+    (λ h. let t = p.told h in let u = q.told h in told_left (λ (r : Result matching.Found checking.Refused). found_numbers (found.answer_of r)) (one_match t.1 u.1) t.2 u.2)
 
 pub one_search_reply : {pattern line table table' table'' out : List ℕ} {status status' : ℕ} {after after' : List ℕ}
     → SearchReplies pattern line table table' out status after → SearchReplies pattern line table table'' out status' after'
     → (status ≡ status') × (after ≡ after') × (table' ≡ table'')
 one_search_reply {out = out} p q =
     by_length (length out) 2 (λ h. left_one (p.short h) (q.short h))
-    (λ h. let t = p.told h in let u = q.told h in told_left (λ (r : matching.Answer). found_numbers (found.answer_of r)) (one_search t.1 u.1) t.2 u.2)
+    (λ h. let t = p.told h in let u = q.told h in told_left (λ (r : Result matching.Found checking.Refused). found_numbers (found.answer_of r)) (one_search t.1 u.1) t.2 u.2)
 
 pub one_replace_reply : {pattern template line buffer buffer' buffer'' out : List ℕ} {status status' : ℕ} {after after' : List ℕ}
     → ReplaceReplies pattern template line buffer buffer' out status after → ReplaceReplies pattern template line buffer buffer'' out status' after'
@@ -100,7 +98,7 @@ one_replace_reply {pattern} {template} {line} {buffer} {buffer'} {buffer''} {out
     (λ h.
     let t = p.told h in
     let u = q.told h in
-    told_left (λ (r : replacing.Replaced). replaced_numbers (replaced.answer_of r))
+    told_left (λ (r : Result replacing.Replaced checking.Refused). replaced_numbers (replaced.answer_of r))
     (one_replaced pattern template line buffer t.0 u.0 buffer' buffer'' t.1 u.1) t.2 u.2)
 
 pub one_piece_reply : {template line table : List ℕ} {number : ℕ} {out : List ℕ} {status status' : ℕ} {after after' : List ℕ}
@@ -120,7 +118,7 @@ one_run_reply {pattern} {machine} {line} {lent} {table = table} {table'} {table'
     (λ l.
     let t = p.told h k l in
     let u = q.told h k l in
-    told_left (λ (r : matching.Answer). found_numbers (found.answer_of r)) (answers_one (searches_in machine) pattern line table t.1 u.1) t.2 u.2))) in
+    told_left (λ (r : Result matching.Found checking.Refused). found_numbers (found.answer_of r)) (answers_one (searches_in machine) pattern line table t.1 u.1) t.2 u.2))) in
     (one.0, one.1, one.2, λ other. p.kept other ∙ sym (q.kept (λ e. other (one.0 ∙ e))))
 
 -- ---- building
@@ -143,38 +141,39 @@ module _ (pattern : List ℕ) (searches : Bool) where
   three_same p q r = λ i. accepted (p i ∷ q i ∷ r i ∷ [])
 
   -- whatever the memory holds around the machine, the numbers are those of the pattern
-  built_told : (before after : List ℕ) (r : Built) → BuildsIn pattern searches before after r → built_numbers r ≡ (pattern_of pattern >>= machine_told)
-  built_told before after (Refused number place) b = sym (ap (λ (c : Checked Pattern). c >>= machine_told) b.0)
-  built_told before after (Machine places deep many) h =
+  built_told : (before after : List ℕ) (r : Result Numbers checking.Refused) → BuildsIn pattern searches before after r
+      → built_numbers r ≡ (pattern_of pattern >>= machine_told)
+  built_told before after (Err e) b = sym (ap (λ (c : Checked Pattern). c >>= machine_told) b.0)
+  built_told before after (Ok numbers) h =
       let m = h.ready in
       three_same m.places_are m.deep_is h.many_are ∙ sym (ap (λ (c : Checked Pattern). c >>= machine_told) m.found)
 
   -- one machine is built, and nothing where it is refused
   module _ (before after after' : List ℕ) where
-    built_same : {places deep many places' deep' many' : ℕ} → built_numbers (Machine places deep many) ≡ built_numbers (Machine places' deep' many')
-        → Holds pattern searches before after places deep many → Holds pattern searches before after' places' deep' many' → SameMachine pattern after after'
-    built_same {places} {deep} {places' = places'} {deep'} e h k =
-        let count : places ≡ places' = cc in
-        let low : deep ≡ deep' = cc in
-        let read : places_in after ≡ places = held_places h in
-        let tree : h.ready.tree ≡ k.ready.tree = cc (h.ready.found, k.ready.found) in
+    built_same : {n n' : Numbers} → built_numbers (Ok n) ≡ built_numbers (Ok n')
+        → Holds pattern searches before after n.places n.depth n.groups → Holds pattern searches before after' n'.places n'.depth n'.groups → SameMachine pattern after after'
+    built_same {n} {n'} e h h' =
+        let count : n.places ≡ n'.places = cc in
+        let low : n.depth ≡ n'.depth = cc in
+        let read : places_in after ≡ n.places = held_places h in
+        let tree : h.ready.tree ≡ h'.ready.tree = cc (h.ready.found, h'.ready.found) in
         record {
-          head = h.head ∙ (λ i. count i ∷ low i ∷ bool_byte searches ∷ []) ∙ sym k.head;
-          places = subst (λ (n : ℕ). decode (drop head_numbers after) pattern n ≡ decode (drop head_numbers after') pattern n) (sym read)
+          head = h.head ∙ (λ i. count i ∷ low i ∷ bool_byte searches ∷ []) ∙ sym h'.head;
+          places = subst (λ (k : ℕ). decode (drop head_numbers after) pattern k ≡ decode (drop head_numbers after') pattern k) (sym read)
               (h.ready.decoded ∙ ap (λ (t : Pattern). places_of (wrapped searches t) (first_group searches)) tree
-              ∙ sym (subst (λ (n : ℕ). decode (drop head_numbers after') pattern n ≡ places_of (wrapped searches k.ready.tree) (first_group searches)) (sym count) k.ready.decoded));
-          behind = subst (λ (n : ℕ). drop (machine_end n) after ≡ drop (machine_end n) after') (sym read)
-              (h.behind ∙ sym (subst (λ (n : ℕ). drop (machine_end n) after' ≡ drop (machine_end n) before) (sym count) k.behind));
+              ∙ sym (subst (λ (k : ℕ). decode (drop head_numbers after') pattern k ≡ places_of (wrapped searches h'.ready.tree) (first_group searches)) (sym count) h'.ready.decoded));
+          behind = subst (λ (k : ℕ). drop (machine_end k) after ≡ drop (machine_end k) after') (sym read)
+              (h.behind ∙ sym (subst (λ (k : ℕ). drop (machine_end k) after' ≡ drop (machine_end k) before) (sym count) h'.behind));
         }
 
-    builds_one : (r r' : Built) → built_numbers r ≡ built_numbers r' → BuildsIn pattern searches before after r → BuildsIn pattern searches before after' r'
-        → SameMachine pattern after after' × ((status_of (built_numbers r) ≡ answered → ⊥) → after ≡ after')
-    builds_one (Refused number place) (Refused number' place') e h k =
+    builds_one : (r r' : Result Numbers checking.Refused) → built_numbers r ≡ built_numbers r' → BuildsIn pattern searches before after r
+        → BuildsIn pattern searches before after' r' → SameMachine pattern after after' × ((status_of (built_numbers r) ≡ answered → ⊥) → after ≡ after')
+    builds_one (Err refused) (Err refused') e h k =
         let same = h.1 ∙ sym k.1 in
         (same_machine pattern same, λ other. same)
-    builds_one (Refused number place) (Machine places deep many) e h k = let z : ◌≡◌ {A = ℕ} 0 1 = cc in absurd (omega arith)
-    builds_one (Machine places deep many) (Refused number place) e h k = let z : ◌≡◌ {A = ℕ} 0 1 = cc in absurd (omega arith)
-    builds_one (Machine places deep many) (Machine places' deep' many') e h k = (built_same e h k, λ other. absurd (other refl))
+    builds_one (Err refused) (Ok n) e h k = let z : ◌≡◌ {A = ℕ} 0 1 = cc in absurd (omega arith)
+    builds_one (Ok n) (Err refused) e h k = let z : ◌≡◌ {A = ℕ} 0 1 = cc in absurd (omega arith)
+    builds_one (Ok n) (Ok n') e h k = (built_same e h k, λ other. absurd (other refl))
 
 -- the memory is the same but for the numbers of the table, which stand for the same places
 pub one_build_reply : {pattern : List ℕ} {searches : Bool} {machine machine' machine'' out : List ℕ} {status status' : ℕ} {after after' : List ℕ}

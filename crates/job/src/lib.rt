@@ -5,7 +5,7 @@ ghost use Rattle.std.specs.Prelude.{◌≤◌, ◌≡◌, [], ◌∷◌, length}
 ghost use Rattle.printer.specs.Gathered.{Gathered};
 ghost use Rattle.job.specs.Comes.{comes, pattern_record, line_record, body_bytes};
 
-use pattern::Spans;
+use pattern::{Numbers, Refused, Spans};
 use printer::Printer;
 
 // The kinds of a job's records, and the greatest length of a body.
@@ -62,23 +62,23 @@ pub fn next_record(
 }
 
 // The pattern's numbers.
-pub fn print_numbers(p: &mut Printer, places: usize, depth: usize, groups: usize)
+pub fn print_numbers(p: &mut Printer, numbers: Numbers)
     ensures { Gathered p.old p.new }
 {
     p.bytes(b"places ");
-    p.decimal(places as u64);
+    p.decimal(numbers.places as u64);
     p.bytes(b" depth ");
-    p.decimal(depth as u64);
+    p.decimal(numbers.depth as u64);
     p.bytes(b" groups ");
-    p.decimal(groups as u64);
+    p.decimal(numbers.groups as u64);
     p.bytes(b"\n");
 }
 
 // The refusal of the pattern.
-pub fn print_refused(p: &mut Printer, number: usize, place: usize)
+pub fn print_refused(p: &mut Printer, refused: Refused)
     ensures { Gathered p.old p.new }
 {
-    p.refusal(number, place);
+    p.refusal(refused);
     p.bytes(b"\n");
 }
 

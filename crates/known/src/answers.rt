@@ -5,7 +5,6 @@ ghost use Rattle.printer.specs.Gathered.{Gathered};
 use crate::words;
 use pattern::Spans;
 use printer::Printer;
-use replacer::Replaced;
 
 // The longest output of a replace-all.
 const OUTPUT: usize = 24;
@@ -30,18 +29,14 @@ pub fn replaced(p: &mut Printer, pattern: &[u8], template: &[u8], line: &[u8])
 {
     let mut buffer = [0; OUTPUT];
     match replacer::replace_all(pattern, template, line, &mut buffer) {
-        Replaced::Refused { number, place } => job::print_refused(p, number, place),
-        Replaced::Done {
-            length,
-            replacements,
-            steps,
-        } => {
-            if let Some(output) = buffer.get(..length) {
+        Err(refused) => job::print_refused(p, refused),
+        Ok(done) => {
+            if let Some(output) = buffer.get(..done.length) {
                 words::quoted(p, output);
             }
-            words::labelled(p, b" length ", length as u64);
-            words::labelled(p, b" replacements ", replacements as u64);
-            words::labelled(p, b" steps ", steps);
+            words::labelled(p, b" length ", done.length as u64);
+            words::labelled(p, b" replacements ", done.replacements as u64);
+            words::labelled(p, b" steps ", done.steps);
             words::end_line(p);
         }
     }

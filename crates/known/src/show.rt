@@ -1,6 +1,6 @@
 // A pattern laid open: its numbers, and the places that are built from its records.
 use crate::listing;
-use machine::{Built, Machine};
+use machine::Machine;
 use pattern::PlaceKind;
 use printer::Printer;
 
@@ -8,18 +8,14 @@ use printer::Printer;
 pub fn built(p: &mut Printer, pattern: &[u8], searches: bool) -> usize {
     let mut code = [0u16; Machine::CODE];
     match machine::build(pattern, searches, &mut code) {
-        Built::Refused { number, place } => {
-            job::print_refused(p, number, place);
-            0
+        Ok(numbers) => {
+            job::print_numbers(p, numbers);
+            listing::places(p, pattern, &code[..PlaceKind::NUMBERS * numbers.places]);
+            numbers.groups
         }
-        Built::Machine {
-            places,
-            depth,
-            groups,
-        } => {
-            job::print_numbers(p, places, depth, groups);
-            listing::places(p, pattern, &code[..PlaceKind::NUMBERS * places]);
-            groups
+        Err(refused) => {
+            job::print_refused(p, refused);
+            0
         }
     }
 }

@@ -4,7 +4,7 @@ use mathlib.Core.Path.{◌≡◌, refl, sym, ap, subst, ◌∙◌}
 use mathlib.Core.Bool.{Bool, true, false, cond}
 use mathlib.Core.List.{List, [], ◌∷◌}
 use native.Mathlib.Omega.{arith}
-use borrow.Author.Tests.{ltb-true, ltb-false, lt-ltb, le-ltb, eq-eqb, ne_eqb}
+use borrow.Author.Tests.{ltb-true, ltb-false, lt-ltb, le-ltb, ne_eqb}
 use lib.Dec.{ltb, eqb}
 use lib.ListN.{get_or}
 use Rattle.paper.specs.Pattern.{Mode, greedy, lazy}
@@ -12,15 +12,9 @@ use Rattle.paper.specs.Check.{part, ranges_of}
 use Rattle.paper.specs.Machine.{Core, dead, skip, eats, captures, chain, either, must, maybe, star, Place, one_of, stop, fork, opening, closing, begin, begin_optional, ending, accept, size, pass_fork}
 use Rattle.paper.specs.Tables.{place_of, place_kind_at, place_next_at, place_first_at, place_many_at}
 use Rattle.laying.specs.Laid.{Holds, Kept, entry_of, Lays}
-use Rattle.laying.specs.Single.{Put}
 use Rattle.laying.specs.Copies.{moved_to, moved_other, Model, in_place, ahead, Moving, PutMoved, PlaceMoved, Copied}
 use Rattle.laying.proofs.Stores.{agree, kept_both}
 use Rattle.laying.proofs.Entering.{entry_none, entry_some}
-
--- a follower before the copied places
-pub moved_before : (from count to next x : ℕ) → x < from → moved_to from count to next x ≡ next
-moved_before from count to next x low =
-    ap (λ (b : Bool). cond b next (cond (ltb (x - from) count) (to + (x - from)) next)) (lt-ltb x from low)
 
 -- one of the copied places has its copy
 pub moved_inside : (from count to next x y : ℕ) → from ≤ x → x < from + count → y + from ≡ x + to → moved_to from count to next x ≡ y
@@ -35,27 +29,9 @@ moved_behind from count to next x high =
     ap (λ (b : Bool). cond b next (cond (ltb (x - from) count) (to + (x - from)) next)) (le-ltb x from (omega arith))
     ∙ ap (λ (b : Bool). cond b (to + (x - from)) next) (le-ltb (x - from) count (omega arith))
 
--- a fork's third number is a follower
-pub other_fork : (from count to next kind a : ℕ) → kind ≡ 0 → moved_other from count to next kind a ≡ moved_to from count to next a
-other_fork from count to next kind a is = ap (λ (b : Bool). cond b (moved_to from count to next a) a) (eq-eqb kind 0 is)
-
 -- any other place's is not
 pub other_same : (from count to next kind a : ℕ) → (kind ≡ 0 → ⊥) → moved_other from count to next kind a ≡ a
 other_same from count to next kind a not = ap (λ (b : Bool). cond b (moved_to from count to next a) a) (ne_eqb kind 0 not)
-
--- numbers that are read, moved and written copy a place
-pub place_put : (from count to next k : ℕ) (t : List ℕ) {v v' a a' n : ℕ} {t' : List ℕ} → v ≡ place_next_at t (from + k) → v' ≡ moved_to from count to next v
-    → a ≡ place_first_at t (from + k)
-    → a' ≡ moved_other from count to next (place_kind_at t (from + k)) a → n ≡ place_many_at t (from + k) → Put t (to + k) (place_kind_at t (from + k)) v' a' n t'
-    → PutMoved from count to next k t t'
-place_put from count to next k t ev ev' ea ea' en put =
-    record {
-      kind_is = put.kind_is;
-      next_is = put.next_is ∙ ev' ∙ ap (moved_to from count to next) ev;
-      a_is = put.a_is ∙ ea' ∙ ap (moved_other from count to next (place_kind_at t (from + k))) ea;
-      n_is = put.n_is ∙ en;
-      kept = put.kept;
-    }
 
 -- Copying goes from place to place.
 

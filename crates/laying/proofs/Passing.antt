@@ -12,7 +12,7 @@ use Rattle.laying.specs.Room.{most_places}
 use Rattle.pattern.specs.Walk.{pass_places}
 use Rattle.laying.specs.Laid.{Holds, Kept, entry_of, Lays}
 use Rattle.laying.specs.Single.{Fitting, Put, Forked}
-use Rattle.laying.specs.Copies.{Model, in_place, ahead, Moving, Copied}
+use Rattle.laying.specs.Copies.{Model, in_place, ahead, Copied}
 use Rattle.laying.specs.Repeats.{pass_core, inner_start, Begun, BegunLaid, Repeating, PassesLaid, PassesLeft}
 use Rattle.laying.proofs.Stores.{plain_holds, holds_kept, lays_kept, lays_behind, kept_none, kept_both}
 use Rattle.laying.proofs.Entering.{entry_some, entry_small, entry_same, passes_some, passes_none, places_must, places_may, inner_must, inner_may, core_must, core_none, core_star, core_maybe, must_lays, maybe_lays, star_lays, end_small}
@@ -40,27 +40,6 @@ model_apart : {model p wanted base low high : ℕ} {t t1 : List ℕ} (e : Core) 
     → high ≤ wanted → Kept low high t t1 → Lays t bs e model next → Lays t1 bs e model next
 model_apart e bs next ep (in_place same) lo hi k = lays_behind e bs _ next k (omega arith)
 model_apart e bs next ep (ahead first) lo hi k = lays_kept e bs _ next k (omega arith)
-
--- `begun`: its head fits
-pub begin_fits : {model p kind first g base next v : ℕ} {t : List ℕ} → Begun model p kind first g base next → 2040 ≤ length t → v ≡ entry_of p (base + 1) next
-    → Fitting t base v first g
-begin_fits {p = p} {base = base} {next = next} m room ev =
-    record {
-      room = omega (arith, m.room);
-      next_fits = omega (arith, ev, entry_small p (base + 1) next {most = 65535} (omega (arith, m.room)) (omega (arith, m.follows)));
-      a_fits = omega (arith, m.head.a_small);
-      n_fits = omega (arith, m.head.n_small);
-    }
-
--- what is copied stands where it is wanted, or before
-pub begin_moving : {model p kind first g base next : ℕ} → Begun model p kind first g base next → Moving model p (base + 1) next
-begin_moving m =
-    record {
-      model_room = omega (arith, m.room, model_ends m.stands (omega arith));
-      room = m.room;
-      follows = m.follows;
-      apart = model_later m.stands (omega arith);
-    }
 
 -- the head and the copy
 pub begun_laid : {model p kind first g base next v : ℕ} {t t1 t2 : List ℕ} → Begun model p kind first g base next → v ≡ entry_of p (base + 1) next
@@ -260,11 +239,6 @@ none_laid {p = p} {first = first} {g = g} {least = least} {may = may} {mode = mo
       laid = λ bs e ep given. subst (λ (c : Core). Lays t bs c base next) (sym (core_none (mode_of mode) first g e least endless may none nones)) tt;
     }
 
--- all passes are left
-pub left_all : {model p first g least may mode base next : ℕ} {endless : Bool} (t : List ℕ) → Repeating model p first g least may endless base next
-    → PassesLeft model p first g least may endless mode base next least may base t t
-left_all t m = record { asked = m; same_length = refl; all = λ after r. r }
-
 -- a pass that must be made is laid
 pub left_must : {model p first g least may mode base next must left from v : ℕ} {endless : Bool} {t0 t t1 : List ℕ}
     → PassesLeft model p first g least may endless mode base next must left from t0 t → (must ≡ 0 → ⊥)
@@ -288,18 +262,6 @@ left_may i some ev f h end =
       asked = may_rest i.asked refl some;
       same_length = end.kept.same_length ∙ h.kept.same_length ∙ f.kept.same_length ∙ i.same_length;
       all = λ after r. i.all after (may_laid i.asked refl some f h end r ev);
-    }
-
--- its fork fits
-pub left_fork : {model p first g least may mode base next left from : ℕ} {endless : Bool} {t0 t : List ℕ}
-    → PassesLeft model p first g least may endless mode base next 0 left from t0 t → (left ≡ 0 → ⊥) → 2040 ≤ length t0 → Fitting t from (from + 1) next 0
-left_fork {p = p} {left = left} i some room =
-    let total = places_may 0 left p refl some in
-    record {
-      room = omega (arith, i.asked.room, i.same_length);
-      next_fits = omega (arith, i.asked.room);
-      a_fits = omega (arith, i.asked.follows);
-      n_fits = omega arith;
     }
 
 -- none is left

@@ -1,15 +1,14 @@
 -- A run of passes has so many places, and those tell the places of the inner part.
-use Prim.Native.Nat.{ℕ, zero, suc, ◌+◌, ◌*◌, ◌≤◌, ◌-◌, ◌/◌}
+use Prim.Native.Nat.{ℕ, zero, suc, ◌+◌, ◌*◌, ◌≤◌}
 use mathlib.Core.Path.{◌≡◌, refl, ap, ◌∙◌}
 use mathlib.Core.Bool.{Bool, true, false}
-use native.Mathlib.Nat.{zero-mul, mul_comm, one-mul, mul-one, mul-add, add-mul, mul-div_cancel_left}
+use native.Mathlib.Nat.{zero-mul}
 use native.Mathlib.Omega.{arith}
 use Rattle.paper.specs.Pattern.{Mode}
 use Rattle.paper.specs.Machine.{Core, size, maybes, maybe}
 use Rattle.paper.proofs.machine.Sizes.{size_musts, size_maybes}
 use Rattle.pattern.specs.Walk.{pass_places}
-use Rattle.laying.specs.Repeats.{optional_core, pass_core, Passed, PassedInside}
-use Rattle.laying.proofs.Entering.{at_least_one}
+use Rattle.laying.specs.Repeats.{optional_core, pass_core}
 
 -- optional passes with an upper end are paper's
 pub optional_maybes : (m : ℕ) (mode : Mode) (first n : ℕ) (e : Core) → optional_core false m mode first n e ≡ maybes m mode first n e
@@ -29,28 +28,3 @@ pub pass_size : (least : ℕ) (endless : Bool) (may : ℕ) (mode : Mode) (first 
 pass_size least endless may mode first n e once =
     size_musts least first n e (optional_core endless may mode first n e)
     ∙ ap (λ (k : ℕ). least * (1 + size e) + k) (optional_size endless may mode first n e once)
-
--- `inner_places`: the places of passes, without those of their own
-passes_inside : (least may p : ℕ) → pass_places least may p ≡ (least + may) * p + least + 3 * may
-passes_inside least may p = omega (arith, mul-add least 1 p, mul-one least, mul-add may 3 p, mul_comm may 3, add-mul least may p)
-
--- one pass has what is left, several share it
-pub inside_once : {all least may : ℕ} → least + may ≡ 1 → PassedInside all least may (all - least - 3 * may)
-inside_once {all} {least} {may} once =
-    record {
-      same = λ m.
-          let e : (least + may) * m.inside ≡ m.inside = ap (λ (k : ℕ). k * m.inside) once ∙ one-mul m.inside in
-          omega (arith, m.all_are, passes_inside least may m.inside);
-    }
-
-pub inside_shared : {all least may : ℕ} → PassedInside all least may ((all - least - 3 * may) / (least + may))
-inside_shared {all} {least} {may} =
-    record {
-      same = λ m.
-          let e : all - least - 3 * may ≡ (least + may) * m.inside = omega (arith, m.all_are, passes_inside least may m.inside) in
-          ap (λ (k : ℕ). k / (least + may)) e ∙ mul-div_cancel_left m.inside (at_least_one m.some);
-    }
-
--- so many places are the passes' own
-pub passes_own : {all least may : ℕ} → Passed all least may → least + 3 * may ≤ all
-passes_own {all} {least} {may} m = omega (arith, m.all_are, passes_inside least may m.inside)

@@ -3,51 +3,11 @@ use Prim.Native.Nat.{ℕ, ◌+◌, ◌*◌, ◌≤◌, ◌<◌}
 use mathlib.Core.Path.{◌≡◌, refl, sym, ap, ◌∙◌}
 use mathlib.Core.List.{List}
 use native.Mathlib.Omega.{arith}
-use lib.ListN.{length, get_or, set, length-set}
-use lib.Seq.{get_or-set_same, get_or-set_other}
+use lib.ListN.{length, get_or}
 use Rattle.paper.specs.Machine.{Core, dead, skip, eats, captures, chain, either, must, maybe, star, Place, size}
 use Rattle.paper.specs.Tables.{place_of}
 use Rattle.laying.specs.Laid.{Holds, Kept, Lays}
 use Rattle.laying.specs.Single.{Put}
-
--- a store leaves what stands at another index
-pub elsewhere : (l : List ℕ) (i j a : ℕ) → (j ≡ i → ⊥) → get_or (set l i a) j 0 ≡ get_or l j 0
-elsewhere l i j a other = get_or-set_other l i j a 0 other
-
--- four stores leave what stands at none of the four
-pub elsewhere_4 : (t : List ℕ) (b k v a n j : ℕ) → (j ≡ b → ⊥) → (j ≡ b + 1 → ⊥) → (j ≡ b + 2 → ⊥) → (j ≡ b + 3 → ⊥)
-    → get_or (set (set (set (set t b k) (b + 1) v) (b + 2) a) (b + 3) n) j 0 ≡ get_or t j 0
-elsewhere_4 t b k v a n j f g h i =
-    let t1 = set t b k in
-    let t2 = set t1 (b + 1) v in
-    elsewhere (set t2 (b + 2) a) (b + 3) j n i ∙ elsewhere t2 (b + 2) j a h ∙ elsewhere t1 (b + 1) j v g ∙ elsewhere t b j k f
-
--- four stores make a place
-pub put_stored : (t : List ℕ) (x k v a n : ℕ) → 4 * x + 4 ≤ length t
-    → Put t x k v a n (set (set (set (set t (4 * x) k) (4 * x + 1) v) (4 * x + 2) a) (4 * x + 3) n)
-put_stored t x k v a n room =
-    let b = 4 * x in
-    let t1 = set t b k in
-    let t2 = set t1 (b + 1) v in
-    let t3 = set t2 (b + 2) a in
-    let long1 : length t1 ≡ length t = length-set t b k in
-    let long2 : length t2 ≡ length t = length-set t1 (b + 1) v ∙ long1 in
-    let long3 : length t3 ≡ length t = length-set t2 (b + 2) a ∙ long2 in
-    record {
-      kind_is =
-          elsewhere t3 (b + 3) b n (λ e. omega arith) ∙ elsewhere t2 (b + 2) b a (λ e. omega arith)
-          ∙ elsewhere t1 (b + 1) b v (λ e. omega arith) ∙ get_or-set_same t b k 0 (omega arith);
-      next_is =
-          elsewhere t3 (b + 3) (b + 1) n (λ e. omega arith) ∙ elsewhere t2 (b + 2) (b + 1) a (λ e. omega arith)
-          ∙ get_or-set_same t1 (b + 1) v 0 (omega arith);
-      a_is = elsewhere t3 (b + 3) (b + 2) n (λ e. omega arith) ∙ get_or-set_same t2 (b + 2) a 0 (omega arith);
-      n_is = get_or-set_same t3 (b + 3) n 0 (omega arith);
-      kept = record {
-        same_length = length-set t3 (b + 3) n ∙ long3;
-        below = λ i lt. elsewhere_4 t b k v a n i (λ e. omega arith) (λ e. omega arith) (λ e. omega arith) (λ e. omega arith);
-        behind = λ i le. elsewhere_4 t b k v a n i (λ e. omega arith) (λ e. omega arith) (λ e. omega arith) (λ e. omega arith);
-      };
-    }
 
 -- numbers that agree stand for the same place
 pub agree : (p : List ℕ) {k k' v v' a a' n n' : ℕ} → k ≡ k' → v ≡ v' → a ≡ a' → n ≡ n' → place_of p k v a n ≡ place_of p k' v' a' n'

@@ -55,6 +55,7 @@ impl Place {
         requires { Fitting numbers.old x self.next self.a self.n }
         ensures { Put numbers.old x self.kind self.next self.a self.n numbers.new }
     {
+        // four stores, as an array that is copied in would need the same casts
         let b = PlaceKind::NUMBERS * x;
         numbers[b] = self.kind;
         numbers[b + 1] = self.next as u16;

@@ -24,6 +24,7 @@ pub struct Passes {
     pub pass: Pass,
     pub must: usize,
     pub may: usize,
+    // no `Option` in place of this and `may`: without an upper end there is one optional pass, counted as any other, and only its end leads back
     pub endless: bool,
     pub mode: usize,
     pub base: usize,

@@ -20,8 +20,6 @@ use Rattle.pattern.specs.Refusals.{number_of}
 use Rattle.pattern.specs.Answer.{answer_of, Checks}
 use Rattle.laying.specs.Room.{table_room}
 use Rattle.places.specs.Built as places
-use Rattle.machine.specs.declared.Built.{Built}
-use Rattle.machine.specs.declared.Built.TheVariants.{Refused, Machine}
 use Rattle.machine.specs.Machine.{wrapped, first_group, Ready, Builds}
 use Rattle.machine.proofs.Wiring.{few_places}
 
@@ -87,13 +85,13 @@ module _ (pattern before after : List ℕ) (bytes : (i : ℕ) → get_or pattern
 
   -- for a whole match
   pub builds_match : {count n d g : ℕ} (searches : Bool) → searches ≡ false → Tree pattern n d g → places.BuiltMatch pattern before after count
-      → Builds pattern searches before after (Machine count d g)
+      → Builds pattern searches before after (Ok (record { places = count; depth = d; groups = g }))
   unfolding ready
   builds_match {count} {n} {d} {g} searches is t built =
       let e = t.tree in
       let same = built.count_is e t.found in
       let laid = subst (λ (n : ℕ). places.Built (places_of e 1) n pattern before after) (sym same) (built.built e t.found) in
-      subst (λ (b : Bool). Builds pattern b before after (Machine count d g)) (sym is) (
+      subst (λ (b : Bool). Builds pattern b before after (Ok (record { places = count; depth = d; groups = g }))) (sym is) (
         ready false e count d t.found same t.deep_is laid,
         t.many_are,
         behind_places laid,
@@ -101,22 +99,14 @@ module _ (pattern before after : List ℕ) (bytes : (i : ℕ) → get_or pattern
 
   -- for a search
   pub builds_search : {count n d g deep : ℕ} (searches : Bool) → searches ≡ true → deep ≡ max 1 d → Tree pattern n d g
-      → places.BuiltSearch pattern before after count → Builds pattern searches before after (Machine count deep g)
+      → places.BuiltSearch pattern before after count → Builds pattern searches before after (Ok (record { places = count; depth = deep; groups = g }))
   unfolding ready
   builds_search {count} {n} {d} {g} {deep = deep} searches is low t built =
       let e = t.tree in
       let same = built.count_is e t.found in
       let laid = subst (λ (n : ℕ). places.Built (places_of (wrapped true e) 0) n pattern before after) (sym same) (built.built e t.found) in
-      subst (λ (b : Bool). Builds pattern b before after (Machine count deep g)) (sym is) (
+      subst (λ (b : Bool). Builds pattern b before after (Ok (record { places = count; depth = deep; groups = g }))) (sym is) (
         ready true e count deep t.found (same ∙ sym (places_wrap e)) (low ∙ ap (max 1) t.deep_is ∙ sym (depth_wrap e)) laid,
         t.many_are,
         behind_places laid,
       )
-
--- what building promises, where its answer is known
-module _ (pattern : List ℕ) (searches : Bool) (before after : List ℕ) {r : Built} (builds : Builds pattern searches before after r) where
-  pub machine_of : {places deep many : ℕ} → r ≡ Machine places deep many → Ready pattern after searches places deep
-  machine_of is = (subst (Builds pattern searches before after) is builds).0
-
-  pub refusal_of : {number place : ℕ} → r ≡ Refused number place → pattern_of pattern ≡ refused number place
-  refusal_of is = (subst (Builds pattern searches before after) is builds).0

@@ -25,7 +25,7 @@ use Rattle.run.specs.Steps.{Running, Runs, stopped_as}
 use Rattle.run.specs.declared.Ran.{Ran}
 use Rattle.machine.specs.Machine.{wrapped, first_group, Ready, RunsFrom, found_of, MatchGives, SearchGives}
 use Rattle.machine.specs.declared.scratch.Scratch.{Scratch}
-use Rattle.machine.specs.Scratch.{lists_numbers, pending_numbers, Lasts, Runnable}
+use Rattle.machine.specs.Scratch.{lists_numbers, pending_numbers, Lasts}
 use Rattle.machine.proofs.Wiring.{ready_places, ready_pairs, ready_wired}
 
 -- a machine that is ready can be run in scratch of its sizes
@@ -145,18 +145,4 @@ lasts_on k m = record {
   taken_same = m.taken_same ∙ k.taken_same;
   lists_same = m.lists_same ∙ k.lists_same;
   pending_same = m.pending_same ∙ k.pending_same;
-}
-
--- a machine that can run from the line's start can run again from any position of it
-pub runs_on : {places deep : ℕ} {line : List ℕ} {from : ℕ} {scratch scratch' : Scratch} → Runnable places deep line 0 scratch → Lasts scratch scratch'
-    → from ≤ length line → Runnable places deep line from scratch'
-runs_on r lasts inside = record {
-  short = r.short;
-  starts = inside;
-  roomy = record {
-    seen_long = omega (arith, r.roomy.seen_long, lasts.seen_same);
-    taken_long = omega (arith, r.roomy.taken_long, lasts.taken_same);
-    lists_long = omega (arith, r.roomy.lists_long, lasts.lists_same);
-    pending_long = omega (arith, r.roomy.pending_long, lasts.pending_same);
-  };
 }

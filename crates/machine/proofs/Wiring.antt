@@ -2,12 +2,10 @@
 use Prim.Native.Nat.{ℕ, zero, suc, ◌+◌, ◌*◌, ◌≤◌, ◌<◌}
 use native.Mathlib.Omega.{arith}
 use native.Mathlib.Nat.{mul-le-mul, mul-le-mul_right, mul_comm, add-mul}
-use mathlib.Core.Path.{◌≡◌, refl, sym, ap, subst, ◌∙◌}
-use mathlib.Core.Bool.{Bool, true, false, cond}
+use mathlib.Core.Path.{◌≡◌, sym, ap, subst, ◌∙◌}
+use mathlib.Core.Bool.{Bool, true, false}
 use mathlib.Core.List.{List}
-use lib.Dec.{leb, ltb}
 use lib.ListN.{length, get_or}
-use borrow.Author.Tests.{leb-true, ltb-true}
 use Rattle.paper.specs.Limits.{pattern_levels, row_count}
 use Rattle.paper.specs.Pattern.{Pattern, all_places, depth, groups}
 use Rattle.paper.specs.Layout.{Lawful}
@@ -23,7 +21,7 @@ use Rattle.laying.specs.Laid.{Readable}
 use Rattle.laying.specs.Room.{most_places}
 use Rattle.machine.specs.declared.scratch.Scratch.{Scratch}
 use Rattle.machine.specs.Machine.{wrapped, first_group, Ready}
-use Rattle.machine.specs.Scratch.{lists_numbers, pending_numbers, Roomy, small_places, small_levels, fits_small}
+use Rattle.machine.specs.Scratch.{lists_numbers, pending_numbers, Roomy}
 
 module _ (pattern : List ℕ) (deep : ℕ → ℕ) (places x : ℕ) where
   -- what is known of the place that four numbers stand for
@@ -146,31 +144,13 @@ ready_wired {pattern} {code} {searches} {places} {deep} m =
     (subst (λ (n : ℕ). decode code pattern n ≡ places_of e (first_group searches)) same m.decoded)
     (subst (λ (n : ℕ). (x : ℕ) → x < n → Readable code pattern x) same m.readable)))
 
--- scratch of the sizes for so many places and levels is long enough for a machine that has no more
-module _ (most levels : ℕ) {scratch : Scratch} (s : length scratch.seen.now ≡ most * levels) (t : length scratch.taken.now ≡ most)
-    (l : length scratch.lists.now ≡ lists_numbers most) (p : length scratch.pending.now ≡ pending_numbers most) where
-  scratch_of : {places deep : ℕ} → places ≤ most → deep + 1 ≤ levels → Roomy places deep scratch
-  scratch_of few low = record {
-    seen_long = omega (arith, mul-le-mul few low, s);
-    taken_long = omega (arith, t);
-    lists_long = omega (arith, l);
-    pending_long = omega (arith, p);
-  }
-
--- that for the largest machine for every one
+-- scratch of the sizes for the largest machine is long enough for every one
 pub ready_scratch : {pattern code : List ℕ} {searches : Bool} {places deep : ℕ} → Ready pattern code searches places deep
     → {scratch : Scratch} → length scratch.seen.now ≡ most_places * pattern_levels → length scratch.taken.now ≡ most_places
     → length scratch.lists.now ≡ lists_numbers most_places → length scratch.pending.now ≡ pending_numbers most_places → Roomy places deep scratch
-ready_scratch m s t l p = scratch_of most_places pattern_levels s t l p (ready_places m).1 (ready_levels m)
-
--- and small scratch for a small one
-pub small_scratch : {places deep : ℕ} → fits_small places deep ≡ true
-    → {scratch : Scratch} → length scratch.seen.now ≡ small_places * small_levels → length scratch.taken.now ≡ small_places
-    → length scratch.lists.now ≡ lists_numbers small_places → length scratch.pending.now ≡ pending_numbers small_places → Roomy places deep scratch
-small_scratch {places} {deep} fits s t l p =
-    let (few, low) = look (leb places small_places) refl fits in
-    scratch_of small_places small_levels s t l p few (omega arith)
-  where
-    look : (b : Bool) → leb places small_places ≡ b → cond b (ltb deep small_levels) false ≡ true → (places ≤ small_places) × (deep < small_levels)
-    look true e h = (leb-true places small_places e, ltb-true deep small_levels h)
-    look false e h = let z : ◌≡◌ {A = ℕ} 0 1 = cc in absurd (omega arith)
+ready_scratch m s t l p = record {
+  seen_long = omega (arith, ready_pairs m, s);
+  taken_long = omega (arith, ready_places m, t);
+  lists_long = omega (arith, ready_places m, l);
+  pending_long = omega (arith, ready_places m, p);
+}

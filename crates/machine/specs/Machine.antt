@@ -1,5 +1,5 @@
 -- A machine built once and run on many lines: what the tables hold, what a run of it asks and gives. Inner promises cite this file, and those of `toj_build` and `toj_run`, which lend a machine.
-use Rattle.std.specs.Prelude.{ℕ, ◌*◌, ◌≤◌, ◌<◌, ◌≡◌, Bool, true, false, List, length, drop}
+use Rattle.std.specs.Prelude.{ℕ, ◌*◌, ◌≤◌, ◌<◌, ◌≡◌, Bool, true, false, List, length, drop, Result, Ok, Err}
 use Rattle.std.specs.Prelude as rust
 use Rattle.std.proofs.Math.Option.{Option, none, some, map}
 use Rattle.paper.specs.Refusal.{refused, accepted}
@@ -11,11 +11,12 @@ use Rattle.paper.specs.Machine.{places_of, machine}
 use Rattle.paper.specs.Match.{wrap, whole_match, search, match_steps, search_steps}
 use Rattle.paper.specs.Tables.{place_numbers, decode}
 use Rattle.paper.specs.Replace.{moved, moved_stopped}
+use Rattle.pattern.specs.declared.Numbers.{Numbers}
+use Rattle.pattern.specs.declared.Refused.{Refused}
+use Rattle.pattern.specs.Refusals.{number_of}
 use Rattle.run.specs.Steps.{stopped_as}
 use Rattle.run.specs.declared.Ran.{Ran}
 use Rattle.laying.specs.Laid.{Readable}
-use Rattle.machine.specs.declared.Built.{Built}
-use Rattle.machine.specs.declared.Built.TheVariants.{Refused, Machine}
 
 -- the pattern whose places are built, and the number of its first group: a search has the wrap around the pattern
 abbrev pub wrapped : Bool → Pattern → Pattern
@@ -38,12 +39,12 @@ pub record Ready (pattern code : List ℕ) (searches : Bool) (places deep : ℕ)
   pub readable : (x : ℕ) → x < places → Readable code pattern x
 
 -- what building promises: the refusals of checking, which leave the table as it was, or the machine's numbers and its table, behind whose places nothing has changed
-abbrev pub Builds : List ℕ → Bool → List ℕ → List ℕ → Built → Type 0
-Builds pattern searches before after (Refused number place) = (pattern_of pattern ≡ refused number place) × (after ≡ before)
-Builds pattern searches before after (Machine places deep many) =
-    (m : Ready pattern after searches places deep)
-    × (many ≡ groups m.tree)
-    × (drop (place_numbers * places) after ≡ drop (place_numbers * places) before)
+abbrev pub Builds : List ℕ → Bool → List ℕ → List ℕ → Result Numbers Refused → Type 0
+Builds pattern searches before after (Err r) = (pattern_of pattern ≡ refused (number_of r.refusal) r.place) × (after ≡ before)
+Builds pattern searches before after (Ok numbers) =
+    (m : Ready pattern after searches numbers.places numbers.depth)
+    × (numbers.groups ≡ groups m.tree)
+    × (drop (place_numbers * numbers.places) after ≡ drop (place_numbers * numbers.places) before)
 
 -- what a run promises: the list machine's end on the rest of the line, the rows as places in the whole line
 abbrev pub RunsFrom : List ℕ → List ℕ → List ℕ → ℕ → ℕ → ℕ → Ran → Type 0

@@ -9,7 +9,7 @@ ghost use Rattle.machine.specs.Scratch.{Runnable, Lasts};
 
 mod scratch;
 
-use pattern::{Pattern, PlaceKind};
+use pattern::{Numbers, Pattern, PlaceKind, Refused};
 use run::Ran;
 pub use scratch::{LargeScratch, OwnScratch, Scratch, Small, SmallScratch, is_small};
 use visit::Table;
@@ -25,49 +25,24 @@ pub struct Machine<'a> {
     pub ghost ready: { ∥ Ready pattern.now code.now searches places depth ∥₁ },
 }
 
-// What building answers: a refusal of the pattern, or the machine's places and depth and the pattern's groups.
-#[derive(Clone, Copy)]
-pub enum Built {
-    Refused {
-        number: usize,
-        place: usize,
-    },
-    Machine {
-        places: usize,
-        depth: usize,
-        groups: usize,
-    },
-}
-
-// Checks a pattern, and builds its machine for a whole match or for a search into a lent table.
-pub fn build(pattern: &[u8], searches: bool, code: &mut [u16]) -> Built
+// Checks a pattern, and builds its machine for a whole match or for a search into a lent table: the machine's places and depth, and the pattern's groups.
+pub fn build(pattern: &[u8], searches: bool, code: &mut [u16]) -> Result<Numbers, Refused>
     requires { table_room ≤ length code.old }
     ensures { Builds pattern.now searches code.old code.new result }
 {
-    match pattern::check(pattern) {
-        Err(refused) => Built::Refused {
-            number: refused.refusal.number(),
-            place: refused.place,
-        },
-        Ok(numbers) => {
-            let depth = numbers.depth;
-            let groups = numbers.groups;
-            if searches {
-                let places = places::build_search(pattern, code, numbers.places - 1, groups);
-                Built::Machine {
-                    places,
-                    depth: depth.max(1),
-                    groups,
-                }
-            } else {
-                let places = places::build_match(pattern, code, numbers.places - 1, groups);
-                Built::Machine {
-                    places,
-                    depth,
-                    groups,
-                }
-            }
-        }
+    let numbers = pattern::check(pattern)?;
+    let last = numbers.places - 1;
+    if searches {
+        Ok(Numbers {
+            places: places::build_search(pattern, code, last, numbers.groups),
+            depth: numbers.depth.max(1),
+            ..numbers
+        })
+    } else {
+        Ok(Numbers {
+            places: places::build_match(pattern, code, last, numbers.groups),
+            ..numbers
+        })
     }
 }
 

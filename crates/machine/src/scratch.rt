@@ -1,5 +1,5 @@
 // The scratch that a machine runs in: lent, or of a call's own in one of two sizes.
-ghost use Rattle.std.specs.Prelude.{◌≡◌, ◌*◌, ◌^◌, ◌<◌, length};
+ghost use Rattle.std.specs.Prelude.{◌≡◌, ◌*◌, ◌^◌, ◌<◌, length, replicate};
 ghost use Rattle.machine.specs.Scratch.{fits_small};
 
 use crate::Machine;
@@ -44,10 +44,10 @@ pub struct OwnScratch<
     const LISTS: usize,
     const PENDING: usize,
 > {
-    seen: [u16; PAIRS],
-    taken: [u16; PLACES],
-    lists: [u16; LISTS],
-    pending: [u16; PENDING],
+    pub seen: [u16; PAIRS],
+    pub taken: [u16; PLACES],
+    pub lists: [u16; LISTS],
+    pub pending: [u16; PENDING],
 }
 
 pub type LargeScratch = OwnScratch<
@@ -70,8 +70,13 @@ impl<const PAIRS: usize, const PLACES: usize, const LISTS: usize, const PENDING:
     LISTS,
     PENDING,
 > {
+    // Clear.
     pub fn new() -> Self
         requires { (PAIRS < 2 ^ 32) × (PLACES < 2 ^ 32) × (LISTS < 2 ^ 32) × (PENDING < 2 ^ 32) }
+        ensures seen { result.seen ≡ replicate PAIRS 0 }
+        ensures taken { result.taken ≡ replicate PLACES 0 }
+        ensures lists { result.lists ≡ replicate LISTS 0 }
+        ensures pending { result.pending ≡ replicate PENDING 0 }
     {
         OwnScratch {
             seen: [0; PAIRS],
@@ -81,6 +86,7 @@ impl<const PAIRS: usize, const PLACES: usize, const LISTS: usize, const PENDING:
         }
     }
 
+    // Lent to one run or to several.
     pub fn lend(&mut self) -> Scratch<'_>
         requires { (PAIRS < 2 ^ 32) × (PLACES < 2 ^ 32) × (LISTS < 2 ^ 32) × (PENDING < 2 ^ 32) }
         ensures seen { length result.seen.now ≡ PAIRS }

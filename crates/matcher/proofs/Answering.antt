@@ -1,5 +1,5 @@
 -- The whole call: its refusals in their order and what it answers otherwise, one law a way out; and the promises allow one answer and one table only.
-use Prim.Native.Nat.{ℕ, ◌≤◌, ◌<◌}
+use Prim.Native.Nat.{ℕ, ◌≤◌}
 use native.Mathlib.Omega.{arith}
 use mathlib.Core.Path.{◌≡◌, refl, sym, ap, ap₂, subst, ◌∙◌}
 use mathlib.Core.Bool.{Bool, true, false}
@@ -7,20 +7,22 @@ use mathlib.Core.List.{List, ◌++◌}
 use mathlib.Core.Option.{Option}
 use lib.Dec.{leb}
 use lib.ListN.{length, drop}
-use borrow.Author.Tests.{le-leb, lt-leb}
-use Rattle.paper.specs.Limits.{line_bytes, table_numbers, step_limit}
-use Rattle.paper.specs.Refusal.{Checked, refused, accepted, ◌>>=◌, ◌>>◌, holds, line_too_long, table_too_short, too_many_steps}
+use borrow.Author.Tests.{leb-true}
+use Rattle.paper.specs.Limits.{line_bytes, table_numbers}
+use Rattle.paper.specs.Refusal.{Checked, refused, accepted, ◌>>=◌, ◌>>◌, holds, line_too_long, table_too_short}
 use Rattle.paper.specs.Pattern.{Pattern}
 use Rattle.paper.specs.Layout.{Lawful}
 use Rattle.paper.specs.Check.{pattern_of}
-use Rattle.std.specs.Prelude.{is_some, unwrap_or}
+use Rattle.std.specs.Prelude.{is_some, unwrap_or, Result, Ok, Err}
 use Rattle.paper.specs.Rows.{Rows, no_rows}
 use Rattle.paper.specs.Match.{whole_match, search, match_steps, search_steps, Found, line_and_table, counted, match_call, search_call, is_match, rows_or_none, table_after, Told, told}
 use Rattle.paper.specs.Bounds.{match_bound, search_bound, most_steps}
-use Rattle.paper.proofs.machine.Bound.{steps_bound, search_bound_law, most_told, match_steps_law, search_steps_law, counted_told}
-use Rattle.matcher.specs.declared.Answer.{Answer}
-use Rattle.matcher.specs.declared.Answer.TheVariants.{Refused, Match, NoMatch}
-use Rattle.matcher.specs.Answer.{answer_of, steps_told, TellsSteps}
+use Rattle.paper.proofs.machine.Bound.{steps_bound, search_bound_law, match_steps_law, search_steps_law, counted_told}
+use Rattle.pattern.specs.declared.Refused.{Refused}
+use Rattle.pattern.specs.Refusals.{number_of}
+use Rattle.pattern.proofs.Differing.{checked_differ}
+use Rattle.matcher.specs.declared.Found as declared
+use Rattle.matcher.specs.Answer.{in_words, answer_of, steps_told, TellsSteps}
 use Rattle.matcher.specs.Promise.{Matches, Searches, Answers}
 use Rattle.run.specs.declared.Ran.{Ran}
 use Rattle.machine.specs.Machine.{Gives, FoundGives}
@@ -28,58 +30,37 @@ use Rattle.machine.proofs.Running.{found_stays, match_read, rows_written}
 
 -- The one answer
 
-told_same : {t u : Told} → accepted t ≡ accepted u → t ≡ u
-told_same e = cc
-
 -- the steps that an answer tells are those that it is read to tell
-told_steps : (r : Answer) (matched : Bool) (steps : ℕ) → answer_of r ≡ accepted (record { matched = matched; steps = steps }) → steps_told r ≡ steps
-told_steps (Refused number place) matched steps e = cc
-told_steps (Match count) matched steps e = ap (λ (t : Told). t.steps) (told_same e)
-told_steps (NoMatch count) matched steps e = ap (λ (t : Told). t.steps) (told_same e)
+told_steps : (r : Result declared.Found Refused) (matched : Bool) (steps : ℕ) → answer_of r ≡ accepted (record { matched = matched; steps = steps }) → steps_told r ≡ steps
+told_steps (Err e) matched steps is = cc
+told_steps (Ok found) matched steps is =
+    let same : in_words found ≡ record { matched = matched; steps = steps } = cc in
+    ap (λ (t : Told). t.steps) same
 
 -- no two answers are read alike
-pub answers_differ : (a b : Answer) → answer_of a ≡ answer_of b → a ≡ b
-answers_differ (Refused number place) (Refused number' place') e = cc
-answers_differ (Refused number place) (Match steps) e = cc
-answers_differ (Refused number place) (NoMatch steps) e = cc
-answers_differ (Match steps) (Refused number place) e = cc
-answers_differ (NoMatch steps) (Refused number place) e = cc
-answers_differ (Match steps) (Match steps') e = let q = told_same e in cc (ap (λ (t : Told). t.steps) q)
-answers_differ (NoMatch steps) (NoMatch steps') e = let q = told_same e in cc (ap (λ (t : Told). t.steps) q)
-answers_differ (Match steps) (NoMatch steps') e = let q = told_same e in cc (ap (λ (t : Told). t.matched) q)
-answers_differ (NoMatch steps) (Match steps') e = let q = told_same e in cc (ap (λ (t : Told). t.matched) q)
+pub answers_differ : (a b : Result declared.Found Refused) → answer_of a ≡ answer_of b → a ≡ b
+answers_differ = checked_differ in_words (λ a b same i. record { matched = (same i).matched; steps = (same i).steps })
 
 -- T5: the promises allow one answer, as a value, and one table
-pub one_match : {pattern line lent : List ℕ} {a b : Answer} {after after' : List ℕ} → Matches pattern line lent a after → Matches pattern line lent b after'
+pub one_match : {pattern line lent : List ℕ} {a b : Result declared.Found Refused} {after after' : List ℕ} → Matches pattern line lent a after → Matches pattern line lent b after'
     → (a ≡ b) × (after ≡ after')
 one_match {a = a} {b = b} p q = (answers_differ a b (p.answer ∙ sym q.answer), p.table ∙ sym q.table)
 
-pub one_search : {pattern line lent : List ℕ} {a b : Answer} {after after' : List ℕ} → Searches pattern line lent a after → Searches pattern line lent b after'
+pub one_search : {pattern line lent : List ℕ} {a b : Result declared.Found Refused} {after after' : List ℕ} → Searches pattern line lent a after → Searches pattern line lent b after'
     → (a ≡ b) × (after ≡ after')
 one_search {a = a} {b = b} p q = (answers_differ a b (p.answer ∙ sym q.answer), p.table ∙ sym q.table)
 
--- Steps that can be told
-
-module _ (matched : Bool) (steps : ℕ) where
-  -- what is told of a match or of none
-  abbrev Telling : Told
-  Telling = record { matched = matched; steps = steps }
-
-  -- steps that are no more than can be told are told
-  pub tells : {r : Answer} → answer_of r ≡ accepted Telling → steps ≤ step_limit → TellsSteps matched steps r
-  tells same few = record {
-    answer = same ∙ sym (ap (λ (b : Bool). holds b too_many_steps 0 >> accepted Telling) (le-leb steps step_limit few));
-    never = λ h. same;
-  }
-
-  -- more are refused; within the limits there are never more
-  pub tells_not : {r : Answer} → answer_of r ≡ refused too_many_steps 0 → step_limit < steps → TellsSteps matched steps r
-  tells_not same many = record {
-    answer = same ∙ sym (ap (λ (b : Bool). holds b too_many_steps 0 >> accepted Telling) (lt-leb steps step_limit many));
-    never = λ h. absurd (omega (arith, most_told));
-  }
-
 -- The call
+
+-- a line and a table that are not refused are within their limits
+pub lent_right : (line lent : List ℕ) → accepted tt ≡ line_and_table line lent → (length line ≤ line_bytes) × (table_numbers ≤ length lent)
+lent_right line lent is = look (leb (length line) line_bytes) (leb table_numbers (length lent)) refl refl is
+  where
+    look : (short long : Bool) → leb (length line) line_bytes ≡ short → leb table_numbers (length lent) ≡ long
+        → accepted tt ≡ (holds short line_too_long 0 >> holds long table_too_short 0) → (length line ≤ line_bytes) × (table_numbers ≤ length lent)
+    look true true s l e = (leb-true (length line) line_bytes s, leb-true table_numbers (length lent) l)
+    look true false s l e = cc
+    look false long s l e = cc
 
 abbrev call_of : Bool → List ℕ → List ℕ → List ℕ → Checked Found
 call_of false pattern line lent = match_call pattern line lent
@@ -111,7 +92,7 @@ found_bound false e line = steps_bound e 1 line
 found_bound true e line = search_bound_law e line
 
 -- the promise out of its parts
-promised : (searches : Bool) (pattern line lent : List ℕ) (r : Answer) (after : List ℕ) → answer_of r ≡ told (call_of searches pattern line lent)
+promised : (searches : Bool) (pattern line lent : List ℕ) (r : Result declared.Found Refused) (after : List ℕ) → answer_of r ≡ told (call_of searches pattern line lent)
     → after ≡ table_after (call_of searches pattern line lent) lent
     → ((e : Pattern) → pattern_of pattern ≡ accepted e → steps_told r ≤ bound_of searches e (length line)) → Answers searches pattern line lent r after
 promised false pattern line lent r after answer table bound = record { answer = answer; table = table; bound = bound }
@@ -119,42 +100,29 @@ promised true pattern line lent r after answer table bound = record { answer = a
 
 module _ (searches : Bool) (pattern line lent : List ℕ) where
   -- a refusal leaves the table as it was
-  refuses : (number place : ℕ) → call_of searches pattern line lent ≡ refused number place → Answers searches pattern line lent (Refused number place) lent
-  refuses number place e =
-      promised searches pattern line lent (Refused number place) lent (sym (ap told e)) (sym (ap (λ (c : Checked Found). table_after c lent) e)) (λ f h. omega arith)
-
-  -- 1 to 8
-  pub refuses_pattern : (number place : ℕ) → pattern_of pattern ≡ refused number place → Answers searches pattern line lent (Refused number place) lent
-  refuses_pattern number place e =
-      refuses number place (called searches pattern line lent ∙ ap (λ (c : Checked Pattern). calling searches c line lent) e)
+  refuses : (r : Refused) → call_of searches pattern line lent ≡ refused (number_of r.refusal) r.place → Answers searches pattern line lent (Err r) lent
+  refuses r e = promised searches pattern line lent (Err r) lent (sym (ap told e)) (sym (ap (λ (c : Checked Found). table_after c lent) e)) (λ f h. omega arith)
 
   module _ (e : Pattern) (found : pattern_of pattern ≡ accepted e) where
-    judged : call_of searches pattern line lent ≡ calling searches (accepted e) line lent
+    judged : call_of searches pattern line lent
+        ≡ (line_and_table line lent >> counted (found_of searches e line).rows (found_of searches e line).steps)
     judged = called searches pattern line lent ∙ ap (λ (c : Checked Pattern). calling searches c line lent) found
 
-    tested : (short long : Bool) → leb (length line) line_bytes ≡ short → leb table_numbers (length lent) ≡ long
-        → call_of searches pattern line lent
-        ≡ (holds short line_too_long 0 >> holds long table_too_short 0 >> counted (found_of searches e line).rows (found_of searches e line).steps)
-    tested short long h h' =
-        judged
-        ∙ ap (λ (b : Bool). holds b line_too_long 0 >> holds (leb table_numbers (length lent)) table_too_short 0
-        >> counted (found_of searches e line).rows (found_of searches e line).steps) h
-        ∙ ap (λ (b : Bool). holds short line_too_long 0 >> holds b table_too_short 0
-        >> counted (found_of searches e line).rows (found_of searches e line).steps) h'
+    after_lent : {c : Checked (Unit {0})} → c ≡ line_and_table line lent
+        → call_of searches pattern line lent ≡ (c >> counted (found_of searches e line).rows (found_of searches e line).steps)
+    after_lent is = judged ∙ sym (ap (λ (c : Checked (Unit {0})). c >> counted (found_of searches e line).rows (found_of searches e line).steps) is)
 
-    -- 11
-    pub refuses_line : line_bytes < length line → Answers searches pattern line lent (Refused line_too_long 0) lent
-    refuses_line long = refuses line_too_long 0 (tested false (leb table_numbers (length lent)) (lt-leb (length line) line_bytes long) refl)
+    -- 11 and 12
+    pub refuses_lent : (r : Refused) → refused (number_of r.refusal) r.place ≡ line_and_table line lent → Answers searches pattern line lent (Err r) lent
+    refuses_lent r is = refuses r (after_lent is)
 
-    -- 12
-    pub refuses_table : length line ≤ line_bytes → length lent < table_numbers → Answers searches pattern line lent (Refused table_too_short 0) lent
-    refuses_table short few =
-        refuses table_too_short 0 (tested true false (le-leb (length line) line_bytes short) (lt-leb table_numbers (length lent) few))
+    module _ (lawful : Lawful e) (right : accepted tt ≡ line_and_table line lent) where
+      short : length line ≤ line_bytes
+      short = (lent_right line lent right).0
 
-    module _ (lawful : Lawful e) (short : length line ≤ line_bytes) (long : table_numbers ≤ length lent) where
       answered : call_of searches pattern line lent ≡ accepted (found_of searches e line)
       answered =
-          tested true true (le-leb (length line) line_bytes short) (le-leb table_numbers (length lent) long)
+          after_lent right
           ∙ counted_told (found_of searches e line).rows (found_of searches e line).steps (few_steps searches e line lawful short)
 
       gives : {ran : Ran} → FoundGives searches pattern line ran → Gives (found_of searches e line).rows (found_of searches e line).steps ran
@@ -165,7 +133,7 @@ module _ (searches : Bool) (pattern line lent : List ℕ) where
           by true g = subst (λ (o : Option Rows). Gives o (search_steps e line) ran) (found_stays (search e line)) (g e found)
 
       -- what was found, told and written
-      pub answers : (ran : Ran) {matched : Bool} {rows : Rows} {r : Answer} {after : List ℕ} → FoundGives searches pattern line ran → matched ≡ is_some ran.rows
+      pub answers : (ran : Ran) {matched : Bool} {rows : Rows} {r : Result declared.Found Refused} {after : List ℕ} → FoundGives searches pattern line ran → matched ≡ is_some ran.rows
           → rows ≡ unwrap_or ran.rows no_rows → TellsSteps matched ran.steps r → after ≡ rows ++ drop table_numbers lent → Answers searches pattern line lent r after
       answers ran {matched} {rows} {r} {after} given is_matched are_rows telling written =
           let g = gives given in
@@ -184,9 +152,9 @@ module _ (searches : Bool) (pattern line lent : List ℕ) where
               subst (λ (t : Pattern). steps_told r ≤ bound_of searches t (length line)) one (omega (arith, found_bound searches e line))
 
       -- which is no refusal: within the limits 14 never is
-      pub not_refused : (ran : Ran) {matched : Bool} {r : Answer} → FoundGives searches pattern line ran
-          → TellsSteps matched ran.steps r → (number place : ℕ) → r ≡ Refused number place → ⊥
-      not_refused ran {r = r} given telling number place is =
+      pub not_refused : (ran : Ran) {matched : Bool} {r : Result declared.Found Refused} → FoundGives searches pattern line ran
+          → TellsSteps matched ran.steps r → (w : Refused) → r ≡ Err w → ⊥
+      not_refused ran {r = r} given telling w is =
           let few : ran.steps ≤ most_steps = omega (arith, (gives given).steps_are, few_steps searches e line lawful short) in
           let z : ◌≡◌ {A = ℕ} 0 1 = cc (ap answer_of is, telling.never few) in
           omega arith

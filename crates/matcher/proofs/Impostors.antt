@@ -2,7 +2,7 @@
 use Prim.Native.Nat.{ℕ}
 use native.Mathlib.Omega.{arith}
 use mathlib.Core.Path.{◌≡◌, refl, sym, ap}
-use mathlib.Core.Bool.{Bool, false, true≢false}
+use mathlib.Core.Bool.{Bool, true, false, true≢false}
 use mathlib.Core.List.{List, [], ◌∷◌}
 use lib.ListN.{length, get_or}
 use Rattle.paper.specs.Refusal.{Checked, refused, accepted, ◌>>=◌}
@@ -10,8 +10,9 @@ use Rattle.paper.specs.Bounds.{match_bound}
 use Rattle.paper.specs.Check.{pattern_of}
 use Rattle.paper.specs.Match.{Told}
 use Rattle.paper.proofs.known.Known.{lent}
-use Rattle.matcher.specs.declared.Answer.{Answer}
-use Rattle.matcher.specs.declared.Answer.TheVariants.{Refused, Match, NoMatch}
+use Rattle.std.specs.Prelude.{Result, Ok, Err}
+use Rattle.pattern.specs.declared.Refused.{Refused}
+use Rattle.matcher.specs.declared.Found.{Found}
 use Rattle.matcher.specs.Promise.{Matches, Searches}
 
 -- case 4: the pattern a and the line "a"
@@ -36,18 +37,18 @@ tells_steps (accepted t) = t.steps
 
 -- One that refuses everything
 
-pub refuses_all : (number place : ℕ) (after : List ℕ) → Matches a line_a lent (Refused number place) after → ⊥
-refuses_all number place after p = true≢false (sym (ap tells_match p.answer))
+pub refuses_all : (e : Refused) (after : List ℕ) → Matches a line_a lent (Err e) after → ⊥
+refuses_all e after p = true≢false (sym (ap tells_match p.answer))
 
-pub refuses_all_searches : (number place : ℕ) (after : List ℕ) → Searches a line_a lent (Refused number place) after → ⊥
-refuses_all_searches number place after p = true≢false (sym (ap tells_match p.answer))
+pub refuses_all_searches : (e : Refused) (after : List ℕ) → Searches a line_a lent (Err e) after → ⊥
+refuses_all_searches e after p = true≢false (sym (ap tells_match p.answer))
 
 -- One that says "no match" to all
 
-pub none_to_all : (steps : ℕ) (after : List ℕ) → Matches a line_a lent (NoMatch steps) after → ⊥
+pub none_to_all : (steps : ℕ) (after : List ℕ) → Matches a line_a lent (Ok (record { matched = false; steps = steps })) after → ⊥
 none_to_all steps after p = true≢false (sym (ap tells_match p.answer))
 
-pub none_to_all_searches : (steps : ℕ) (after : List ℕ) → Searches a line_a lent (NoMatch steps) after → ⊥
+pub none_to_all_searches : (steps : ℕ) (after : List ℕ) → Searches a line_a lent (Ok (record { matched = false; steps = steps })) after → ⊥
 none_to_all_searches steps after p = true≢false (sym (ap tells_match p.answer))
 
 -- One that leaves the table untouched: its first number was 1, and row 0 starts at 0
@@ -55,10 +56,10 @@ none_to_all_searches steps after p = true≢false (sym (ap tells_match p.answer)
 one_not_zero : ◌≡◌ {A = ℕ} 1 0 → ⊥
 one_not_zero e = omega arith
 
-pub table_untouched : (r : Answer) → Matches a line_a lent r lent → ⊥
+pub table_untouched : (r : Result Found Refused) → Matches a line_a lent r lent → ⊥
 table_untouched r p = one_not_zero (ap (λ (l : List ℕ). get_or l 0 0) p.table)
 
-pub table_untouched_searches : (r : Answer) → Searches a line_a lent r lent → ⊥
+pub table_untouched_searches : (r : Result Found Refused) → Searches a line_a lent r lent → ⊥
 table_untouched_searches r p = one_not_zero (ap (λ (l : List ℕ). get_or l 0 0) p.table)
 
 -- One that reports the bound as its count: on case 5 the bound is 10, and there are 4 steps
@@ -69,5 +70,5 @@ bound_is_ten = refl
 ten_not_four : ◌≡◌ {A = ℕ} 10 4 → ⊥
 ten_not_four e = omega arith
 
-pub bound_as_count : (after : List ℕ) → Matches many_a [] lent (Match 10) after → ⊥
+pub bound_as_count : (after : List ℕ) → Matches many_a [] lent (Ok (record { matched = true; steps = 10 })) after → ⊥
 bound_as_count after p = ten_not_four (ap tells_steps p.answer)

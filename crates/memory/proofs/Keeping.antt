@@ -9,16 +9,17 @@ use mir.Val.{bool_byte}
 use lib.Dec.{eqb}
 use lib.ListN.{length, get_or, set, take, drop, length-drop}
 use lib.Seq.{take_all, drop-length, drop-drop, get_or-take}
-use borrow.Rule.Slice.PartMut.{mid_of, put_mid, put_same, Post-is}
+use borrow.Rule.Slice.PartMut.{mid_of, put_mid, Post-is}
 use Rattle.paper.specs.Limits.{line_bytes}
 use Rattle.paper.specs.Tables.{place_numbers}
-use Rattle.machine.specs.declared.Built.{Built}
-use Rattle.machine.specs.declared.Built.TheVariants.{Refused, Machine}
+use Rattle.std.specs.Prelude.{Result, Ok}
+use Rattle.pattern.specs.declared.Numbers.{Numbers}
+use Rattle.pattern.specs.declared.Refused.{Refused}
 use Rattle.machine.specs.declared.scratch.Scratch.{Scratch}
 use Rattle.machine.specs.Machine.{Ready, Builds}
 use Rattle.machine.specs.Scratch.{Runnable}
 use Rattle.machine.proofs.Wiring.{ready_places, ready_pairs}
-use Rattle.memory.specs.Memory.{head_numbers, places_in, depth_in, searches_in, machine_numbers, scratch_numbers, memories, shortest, MachineOf, Holds, BuildsIn}
+use Rattle.memory.specs.Memory.{head_numbers, places_in, depth_in, searches_in, machine_numbers, scratch_numbers, memories, shortest, MachineOf, Holds}
 
 -- the memory with a table put behind its head
 abbrev with_table : List ℕ → List ℕ → List ℕ
@@ -47,28 +48,23 @@ module _ (machine table : List ℕ) (room : machine_numbers ≤ length machine) 
 
 -- what building into the part behind the head promises of the memory
 module _ (pattern : List ℕ) (searches : Bool) (machine table : List ℕ) (room : machine_numbers ≤ length machine) where
-  abbrev Below : Built → Type 0
+  abbrev Below : Result Numbers Refused → Type 0
   Below r = Builds pattern searches (mid_of head_numbers (length machine - head_numbers) machine) table r
 
-  pub refused_in : {r : Built} {number place : ℕ} → Below r → r ≡ Refused number place → BuildsIn pattern searches machine (with_table machine table) (Refused number place)
-  refused_in b is =
-      let kept = subst Below is b in
-      (kept.0, ap (λ (l : List ℕ). with_table machine l) kept.1 ∙ put_same head_numbers (length machine - head_numbers) machine)
-
-  pub ready_below : {r : Built} {places deep many : ℕ} → Below r → r ≡ Machine places deep many → Ready pattern table searches places deep
+  pub ready_below : {r : Result Numbers Refused} {n : Numbers} → Below r → r ≡ Ok n → Ready pattern table searches n.places n.depth
   ready_below b is = (subst Below is b).0
 
-  pub built_in : {r : Built} {places deep many : ℕ} → Below r → r ≡ Machine places deep many
-      → Holds pattern searches machine (set (set (set (with_table machine table) 0 places) 1 deep) 2 (bool_byte searches)) places deep many
-  built_in {places = places} {deep} {many} b is =
+  pub built_in : {r : Result Numbers Refused} {n : Numbers} → Below r → r ≡ Ok n
+      → Holds pattern searches machine (set (set (set (with_table machine table) 0 n.places) 1 n.depth) 2 (bool_byte searches)) n.places n.depth n.groups
+  built_in {n = n} b is =
       let built = subst Below is b in
-      let size = place_numbers * places in
-      subst (λ (l : List ℕ). Holds pattern searches machine l places deep many) (sym (stored machine table room places deep (bool_byte searches)))
+      let size = place_numbers * n.places in
+      subst (λ (l : List ℕ). Holds pattern searches machine l n.places n.depth n.groups) (sym (stored machine table room n.places n.depth (bool_byte searches)))
       (record {
         head = refl;
         ready = built.0;
         many_are = built.1;
-        behind = sym (drop-drop size head_numbers (places ∷ deep ∷ bool_byte searches ∷ table)) ∙ built.2 ∙ ap (drop size) (all_behind machine) ∙ drop-drop size head_numbers machine;
+        behind = sym (drop-drop size head_numbers (n.places ∷ n.depth ∷ bool_byte searches ∷ table)) ∙ built.2 ∙ ap (drop size) (all_behind machine) ∙ drop-drop size head_numbers machine;
       })
 
 -- a memory that holds a machine: its head reads back what was built

@@ -1,5 +1,5 @@
 -- The lent memory of a built machine: what it holds, how long it is, and what a run asks of it.
-use Rattle.std.specs.Prelude.{ℕ, ◌+◌, ◌*◌, ◌≤◌, min, ◌≡◌, Bool, List, [], ◌∷◌, eqb, length, get_or, take, drop}
+use Rattle.std.specs.Prelude.{ℕ, ◌+◌, ◌*◌, ◌≤◌, min, ◌≡◌, Bool, List, [], ◌∷◌, eqb, length, get_or, take, drop, Result, Ok, Err}
 use mir.Val.{bool_byte}
 use Rattle.paper.specs.Refusal.{refused}
 use Rattle.paper.specs.Pattern.{groups}
@@ -9,10 +9,10 @@ use Rattle.laying.specs.Room.{most_places, table_room}
 use Rattle.machine.specs.Machine.{Ready}
 use Rattle.machine.specs.Scratch.{pending_numbers}
 use Rattle.matcher.specs.Promise.{Answers}
-use Rattle.matcher.specs.declared.Answer as matching
-use Rattle.matcher.specs.declared.Answer.TheVariants as matched
-use Rattle.machine.specs.declared.Built.{Built}
-use Rattle.machine.specs.declared.Built.TheVariants.{Refused, Machine}
+use Rattle.pattern.specs.declared.Numbers.{Numbers}
+use Rattle.pattern.specs.declared.Refused.{Refused}
+use Rattle.pattern.specs.Refusals.{number_of}
+use Rattle.matcher.specs.declared.Found.{Found}
 
 -- the numbers before a machine's table: its places, its depth, and 1 where it searches
 abbrev pub head_numbers : ℕ
@@ -68,11 +68,11 @@ pub record Holds (pattern : List ℕ) (searches : Bool) (before after : List ℕ
   pub behind : drop (machine_end places) after ≡ drop (machine_end places) before
 
 -- what building promises: the refusals of checking, which leave the memory as it was, or the machine in it
-abbrev pub BuildsIn : List ℕ → Bool → List ℕ → List ℕ → Built → Type 0
-BuildsIn pattern searches before after (Refused number place) = (pattern_of pattern ≡ refused number place) × (after ≡ before)
-BuildsIn pattern searches before after (Machine places deep many) = Holds pattern searches before after places deep many
+abbrev pub BuildsIn : List ℕ → Bool → List ℕ → List ℕ → Result Numbers Refused → Type 0
+BuildsIn pattern searches before after (Err r) = (pattern_of pattern ≡ refused (number_of r.refusal) r.place) × (after ≡ before)
+BuildsIn pattern searches before after (Ok numbers) = Holds pattern searches before after numbers.places numbers.depth numbers.groups
 
 -- what a run promises: that of a whole match or of a search, and the four memories as they were where it is refused
-pub record RunsIn (pattern machine line : List ℕ) (lent lent' : Memories) (table table' : List ℕ) (r : matching.Answer) : Type 0 where
+pub record RunsIn (pattern machine line : List ℕ) (lent lent' : Memories) (table table' : List ℕ) (r : Result Found Refused) : Type 0 where
   pub answers : Answers (searches_in machine) pattern line table r table'
-  pub kept : (number place : ℕ) → r ≡ matched.Refused number place → lent' ≡ lent
+  pub kept : (refusal : Refused) → r ≡ Err refusal → lent' ≡ lent

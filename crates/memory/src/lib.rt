@@ -4,9 +4,9 @@
 ghost use Rattle.std.specs.Prelude.{◌≡◌, ◌≤◌, min, length};
 ghost use Rattle.memory.specs.Memory.{machine_numbers, scratch_numbers, memories, shortest, MachineOf, BuildsIn, RunsIn};
 
-use machine::{Built, Machine, Scratch};
-use matcher::Answer;
-use pattern::{Line, Refusal, Spans};
+use machine::{Machine, Scratch};
+use matcher::Found;
+use pattern::{Numbers, Refused, Spans};
 
 // The memory of a machine.
 #[derive(Clone, Copy)]
@@ -18,30 +18,19 @@ impl Memory {
 }
 
 // Builds a machine behind its head, and then the head.
-pub fn build_in(pattern: &[u8], searches: bool, machine: &mut [u16]) -> Built
+pub fn build_in(pattern: &[u8], searches: bool, machine: &mut [u16]) -> Result<Numbers, Refused>
     requires { machine_numbers ≤ length machine.old }
     ensures { BuildsIn pattern.now searches machine.old machine.new result }
 {
-    match machine::build(pattern, searches, &mut machine[Memory::HEAD..]) {
-        Built::Refused { number, place } => Built::Refused { number, place },
-        Built::Machine {
-            places,
-            depth,
-            groups,
-        } => {
-            machine[0] = places as u16;
-            machine[1] = depth as u16;
-            machine[2] = searches as u16;
-            Built::Machine {
-                places,
-                depth,
-                groups,
-            }
-        }
-    }
+    let numbers = machine::build(pattern, searches, &mut machine[Memory::HEAD..])?;
+    machine[0] = numbers.places as u16;
+    machine[1] = numbers.depth as u16;
+    machine[2] = u16::from(searches);
+    Ok(numbers)
 }
 
-// Refusals 11 and 12, which touch nothing, else what the machine finds, its rows in the table.
+// Refusals 11 and 12, which touch nothing, else what the machine finds, its rows in the table. The four memories come one by one, as C lends them
+// (`toj_run`).
 pub fn run_in(
     pattern: &[u8],
     machine: &[u16],
@@ -51,22 +40,11 @@ pub fn run_in(
     lists: &mut [u16],
     pending: &mut [u16],
     table: &mut [u16],
-) -> Answer
+) -> Result<Found, Refused>
     requires { (machine_numbers ≤ length machine.now) × MachineOf pattern.now machine.now × (scratch_numbers ≤ shortest (memories seen.old taken.old lists.old pending.old)) }
     ensures { RunsIn pattern.now machine.now line.now (memories seen.old taken.old lists.old pending.old) (memories seen.new taken.new lists.new pending.new) table.old table.new result }
 {
-    if Line::BYTES < line.len() {
-        return Answer::Refused {
-            number: Refusal::LineTooLong as usize,
-            place: 0,
-        };
-    }
-    if table.len() < Spans::NUMBERS {
-        return Answer::Refused {
-            number: Refusal::TableTooShort as usize,
-            place: 0,
-        };
-    }
+    pattern::lent(line, table)?;
     let built = Machine {
         pattern,
         code: &machine[Memory::HEAD..],
@@ -85,7 +63,7 @@ pub fn run_in(
     matcher::told(ran.rows.is_some(), ran.steps)
 }
 
-// The least of the lengths of the four memories that a machine is run in.
+// The least of the lengths of the four memories that a machine is run in, which `toj_run` tests before it lends them.
 pub fn least_of_four(seen: usize, taken: usize, lists: usize, pending: usize) -> usize
     ensures { result ≡ min (min seen taken) (min lists pending) }
 {

@@ -9,7 +9,7 @@ ghost use Rattle.machine.specs.Scratch.{Roomy};
 
 use input::Input;
 use job::{Broken, Job};
-use machine::{Built, LargeScratch, Machine, Scratch};
+use machine::{LargeScratch, Machine, Scratch};
 use printer::Printer;
 use std::io::Stderr;
 
@@ -55,22 +55,18 @@ fn print_end(input: &Input, ended: Result<(), Broken>, p: &mut Printer, errors: 
 fn with_pattern(input: &mut Input, pattern: &[u8], p: &mut Printer, errors: Stderr) {
     let mut code = [0u16; Machine::CODE];
     match machine::build(pattern, false, &mut code) {
-        Built::Refused { number, place } => job::print_refused(p, number, place),
-        Built::Machine {
-            places,
-            depth,
-            groups,
-        } => {
-            job::print_numbers(p, places, depth, groups);
+        Err(refused) => job::print_refused(p, refused),
+        Ok(numbers) => {
+            job::print_numbers(p, numbers);
             let machine = Machine {
                 pattern,
                 code: &code,
                 searches: false,
-                places,
-                depth,
+                places: numbers.places,
+                depth: numbers.depth,
             };
             let mut own = LargeScratch::new();
-            let ended = all_lines(input, machine, groups, &mut own.lend(), p);
+            let ended = all_lines(input, machine, numbers.groups, &mut own.lend(), p);
             print_end(input, ended, p, errors);
         }
     }

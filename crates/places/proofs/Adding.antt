@@ -5,9 +5,10 @@ use mathlib.Core.Path.{◌≡◌, refl, sym, ap, subst, ◌∙◌}
 use mathlib.Core.Bool.{Bool, true, false, cond}
 use mathlib.Core.List.{List, [], ◌∷◌}
 use mathlib.Core.Logic.{◌⊎◌, inl, inr}
+use Rattle.std.specs.Prelude.{Some}
 use native.Mathlib.Nat.{mul-le-mul_right, min-eq_left}
 use native.Mathlib.Omega.{arith}
-use borrow.Author.Tests.{ne_eqb, lt-ltb}
+use borrow.Author.Tests.{lt-ltb}
 use lib.Dec.{ltb}
 use lib.ListN.{length}
 use Rattle.paper.specs.Limits.{pattern_bytes, pattern_places}
@@ -20,9 +21,13 @@ use Rattle.paper.specs.Check.{number_at, kind_at, body_start, body_end, upper_of
 use Rattle.paper.proofs.layout.RepeatBody.{upper_of_number}
 use Rattle.paper.proofs.layout.MemberList.{list_of}
 use Rattle.pattern.specs.Walk.{capped, places_in, groups_in}
-use Rattle.pattern.proofs.Counting.{repeat_passes, Bounded, bounded_counts}
+use Rattle.pattern.proofs.Counting.{repeat_passes}
 use Rattle.pattern.specs.declared.Kind.{Kind}
 use Rattle.pattern.specs.declared.Kind.TheVariants.{Nothing, Empty, Bytes}
+use Rattle.places.specs.declared.sums.Sums.{Sums}
+use Rattle.places.specs.declared.sums.Records.{Records}
+use Rattle.places.specs.declared.sums.Record.{Record}
+use Rattle.places.specs.Rowed.{Waiting, Goes, Alone, AddsUp}
 use Rattle.places.specs.Sums.{number_of, KindAt, inside_start, own_places, OwnPlaces, own_groups, Counting, Summed, Counted}
 use Rattle.places.specs.Standing.{Passes, Stands, AllStand, Row}
 
@@ -188,10 +193,6 @@ own_asked e bs at p k h ends short small count =
       numbers = λ six. repeat_right e bs at h six;
     }
 
--- so the numbers of a repeat are bounded
-pub own_bounded : {bs : List ℕ} {kind start p k : ℕ} → OwnPlaces bs kind start p k → 5 < kind → Bounded (number_at bs start) (number_at bs (start + 2))
-own_bounded {bs} {start = start} m six = bounded_counts (number_at bs start) (number_at bs (start + 2)) (m.numbers six)
-
 -- the first of the records that are still to come
 pub record First (bs : List ℕ) (at stop : ℕ) : Type 0 where
   pub tree : Pattern
@@ -215,44 +216,26 @@ kind_known (repeat least upper mode e) bs at h = omega (arith, h.0)
 pub first_kind : {bs : List ℕ} {at stop : ℕ} (kind : Kind) → First bs at stop → KindAt bs at kind → number_of kind ≡ kind_at bs at
 first_kind {bs} {at} kind f known = known (kind_known f.tree bs at f.stand)
 
--- what is summed so far, beside the records from here on, is the sum of all
-pub record Rest (bs : List ℕ) (at stop : ℕ) (all : List Pattern) (p g k : ℕ) : Type 0 where
-  pub records : List Pattern
-  pub stand : Row bs at stop records
-  pub places_left : places_in all ≤ pattern_places → p + places_in records ≡ places_in all
-  pub groups_left : g + groups_in records ≡ groups_in all
-  pub count_left : k + length records ≡ length all
-
--- what the loop over a row keeps: the sum so far is cut, and with the rest it makes the whole for every tree
-pub record Adding (bs : List ℕ) (at stop from p g k : ℕ) : Type 0 where
-  pub small : p ≤ pattern_places
-  pub passed : at + k ≤ from
-  pub before : from ≤ stop
-  pub rest : (m : Counting bs at stop) → Rest bs from stop m.records p g k
-
--- nothing is summed where the loop begins
-pub adding_none : {bs : List ℕ} {at stop : ℕ} → Counting bs at stop → Adding bs at stop at 0 0 0
-adding_none {bs} {at} {stop} m =
-    record {
-      small = omega arith;
-      passed = omega arith;
-      before = omega (arith, row_long m.records bs at stop m.stand);
-      rest = λ n. record { records = n.records; stand = n.stand; places_left = λ le. omega arith; groups_left = omega arith; count_left = omega arith };
-    }
-
 -- where records are left there is a first
-first_of : {bs : List ℕ} {from stop p g k : ℕ} {all : List Pattern} → stop ≤ length bs → length bs ≤ pattern_bytes → groups_in all ≤ 10 → from < stop
-    → Rest bs from stop all p g k → First bs from stop
-first_of {bs} {from} {stop} {g = g} {all = all} ends short few lt r = on r.records r.stand r.groups_left
+pub first : {bs : List ℕ} {at stop : ℕ} → Counting bs at stop → at < stop → First bs at stop
+first {bs} {at} {stop} m lt = on m.records m.stand m.few
   where
-    on : (es : List Pattern) → Row bs from stop es → g + groups_in es ≡ groups_in all → First bs from stop
-    on [] h e = absurd (omega arith)
-    on (e ∷ es) h same =
-        record { tree = e; stand = h.0; fits = omega (arith, row_long es bs _ stop h.1); ends = ends; short = short; few = omega arith }
+    on : (es : List Pattern) → Row bs at stop es → groups_in es ≤ 10 → First bs at stop
+    on [] h few = absurd (omega arith)
+    on (e ∷ es) h few =
+        record { tree = e; stand = h.0; fits = omega (arith, row_long es bs _ stop h.1); ends = m.ends; short = m.short; few = omega arith }
 
--- while the loop has not ended there is a first record
-pub first : {bs : List ℕ} {at stop from p g k : ℕ} → Counting bs at stop → Adding bs at stop from p g k → from < stop → First bs from stop
-first m a lt = first_of m.ends m.short m.few lt (a.rest m)
+-- and others may follow it
+pub others : {bs : List ℕ} {at stop : ℕ} → Counting bs at stop → at < stop → Counting bs (body_end bs at) stop
+others {bs} {at} {stop} m lt = on m.records m.stand m.few
+  where
+    on : (es : List Pattern) → Row bs at stop es → groups_in es ≤ 10 → Counting bs (body_end bs at) stop
+    on [] h few = absurd (omega arith)
+    on (e ∷ es) h few = record { records = es; stand = h.1; ends = m.ends; short = m.short; few = omega arith }
+
+-- the first alone
+abbrev pub only : {bs : List ℕ} {at stop : ℕ} → First bs at stop → Counting bs at (body_end bs at)
+only f = record { records = f.tree ∷ []; stand = (f.stand, refl); ends = omega arith; short = f.short; few = omega (arith, f.few) }
 
 -- the records inside the first
 abbrev pub first_inside : {bs : List ℕ} {at stop : ℕ} → First bs at stop → Counting bs (inside_start (kind_at bs at) (body_start at) (body_end bs at)) (body_end bs at)
@@ -265,52 +248,49 @@ first_inside {bs} {at} f =
       few = omega (arith, held_groups f.tree);
     }
 
+-- what is summed so far, beside the records from here on, is the sum of all
+pub record Rest (bs : List ℕ) (at stop : ℕ) (all : List Pattern) (p g k : ℕ) : Type 0 where
+  pub records : List Pattern
+  pub stand : Row bs at stop records
+  pub places_left : places_in all ≤ pattern_places → p + places_in records ≡ places_in all
+  pub groups_left : g + groups_in records ≡ groups_in all
+  pub count_left : k + length records ≡ length all
+
+-- what the loop over a row keeps: the sum so far is cut, and with the rest it makes the whole for every tree
+pub record Adding (bs : List ℕ) (at stop from p g k : ℕ) : Type 0 where
+  pub small : p ≤ pattern_places
+  pub passed : at + k ≤ from
+  pub rest : (m : Counting bs at stop) → Rest bs from stop m.records p g k
+
+-- nothing is summed where the loop begins
+pub adding_none : {bs : List ℕ} (at stop : ℕ) → Adding bs at stop at 0 0 0
+adding_none at stop =
+    record {
+      small = omega arith;
+      passed = omega arith;
+      rest = λ n. record { records = n.records; stand = n.stand; places_left = λ le. omega arith; groups_left = omega arith; count_left = omega arith };
+    }
+
 -- one record more: its places, cut, and its groups are added
-more_rest : {bs : List ℕ} {from stop p g k ip ig ik q : ℕ} {all : List Pattern} → stop ≤ length bs → length bs ≤ pattern_bytes → groups_in all ≤ 10 → from < stop
-    → Counted bs (inside_start (kind_at bs from) (body_start from) (body_end bs from)) (body_end bs from) ip ig ik
-    → q ≡ capped (p + own_places bs (kind_at bs from) (body_start from) ip ik)
-    → Rest bs from stop all p g k → Rest bs (body_end bs from) stop all q (g + own_groups (kind_at bs from) ig) (k + 1)
-more_rest {bs} {from} {stop} {p} {g} {k} {ip} {ig} {ik} {q} {all} ends short few lt c cut r = on r.records r.stand r.places_left r.groups_left r.count_left
+pub adding_one : {bs : List ℕ} {at stop from p g k op og ok q : ℕ} → Adding bs at stop from p g k → from < stop → Counted bs from (body_end bs from) op og ok
+    → q ≡ capped (p + op) → Adding bs at stop (body_end bs from) q (g + og) (k + 1)
+adding_one {bs} {at} {stop} {from} {p} {g} {k} {op} {og} {ok} {q} a lt c cut =
+    record { small = omega (arith, cut); passed = omega (arith, a.passed); rest = λ m. let r = a.rest m in on m r.records r.stand r.places_left r.groups_left r.count_left }
   where
-    on : (es : List Pattern) → Row bs from stop es → (places_in all ≤ pattern_places → p + places_in es ≡ places_in all) → g + groups_in es ≡ groups_in all
-        → k + length es ≡ length all → Rest bs (body_end bs from) stop all q (g + own_groups (kind_at bs from) ig) (k + 1)
-    on [] h ps gs ks = absurd (omega arith)
-    on (e ∷ es) h ps gs ks =
-        let inside = first_inside (record {
-          tree = e;
-          stand = h.0;
-          fits = omega (arith, row_long es bs _ stop h.1);
-          ends = ends;
-          short = short;
-          few = omega arith;
-        }) in
-        let s = c.sums inside in
-        let own : own_groups (kind_at bs from) ig ≡ groups e =
-        ap (own_groups (kind_at bs from)) s.groups_are ∙ own_groups_law e bs from h.0 in
+    on : (m : Counting bs at stop) (es : List Pattern) → Row bs from stop es → (places_in m.records ≤ pattern_places → p + places_in es ≡ places_in m.records)
+        → g + groups_in es ≡ groups_in m.records → k + length es ≡ length m.records → Rest bs (body_end bs from) stop m.records q (g + og) (k + 1)
+    on m [] h ps gs ks = absurd (omega arith)
+    on m (e ∷ es) h ps gs ks =
+        let f : First bs from stop =
+        record { tree = e; stand = h.0; fits = omega (arith, row_long es bs _ stop h.1); ends = m.ends; short = m.short; few = omega (arith, m.few) } in
+        let s = c.sums (only f) in
         record {
           records = es;
           stand = h.1;
-          places_left = λ le.
-              let here : own_places bs (kind_at bs from) (body_start from) ip ik ≡ places e =
-              own_places_law e bs from ip ik h.0 s.places_are s.records_are (omega (arith, ps le)) in
-              omega (arith, ps le, cut);
-          groups_left = omega arith;
+          places_left = λ le. omega (arith, ps le, s.places_are (omega (arith, ps le)), cut);
+          groups_left = omega (arith, s.groups_are);
           count_left = omega arith;
         }
-
--- a turn of the loop
-pub adding_more : {bs : List ℕ} {at stop from p g k ip ig ik q : ℕ} → Counting bs at stop → Adding bs at stop from p g k → from < stop
-    → Counted bs (inside_start (kind_at bs from) (body_start from) (body_end bs from)) (body_end bs from) ip ig ik
-    → q ≡ capped (p + own_places bs (kind_at bs from) (body_start from) ip ik)
-    → Adding bs at stop (body_end bs from) q (g + own_groups (kind_at bs from) ig) (k + 1)
-adding_more m a lt c cut =
-    let f = first m a lt in
-    record {
-      small = omega (arith, cut);
-      passed = omega arith;
-      before = f.fits;
-      rest = λ n. more_rest n.ends n.short n.few lt c cut (a.rest n);
-    }
 
 -- the sum is the sum of all where none is left
 pub adding_all : {bs : List ℕ} {at stop from p g k : ℕ} → Adding bs at stop from p g k → stop ≤ from → Counted bs at stop p g k
@@ -322,33 +302,106 @@ adding_all {bs} {at} {stop} {from} {p} {g} {k} a le =
     done all [] h ps gs ks = record { places_are = λ few. omega (arith, ps few); groups_are = omega arith; records_are = omega arith }
     done all (e ∷ es) h ps gs ks = absurd (omega (arith, row_long es bs _ stop h.1))
 
--- a record without records inside, by itself
-pub alone_counted : {bs : List ℕ} {at stop own : ℕ} {kind : Kind} → Counting bs at stop → body_end bs at ≡ stop → KindAt bs at kind
-    → (kind ≡ Nothing) ⊎ (kind ≡ Empty) ⊎ (kind ≡ Bytes) → own ≡ own_places bs (number_of kind) (body_start at) 0 0 → Counted bs at stop own 0 1
-alone_counted {bs} {at} {stop} {own} {kind} m ends known leaf eo =
-    let some : at < stop = omega (arith, ends) in
-    let f = first m (adding_none m) some in
-    let ek : number_of kind ≡ kind_at bs at = first_kind kind f known in
-    let few : ltb (kind_at bs at) 3 ≡ true = lt-ltb (kind_at bs at) 3 (omega (arith, ek, leaf_low leaf)) in
-    let at_end_law : inside_start (kind_at bs at) (body_start at) (body_end bs at) ≡ body_end bs at =
-    ap (λ (b : Bool). cond b (body_end bs at) (cond (ltb (kind_at bs at) 6) (body_start at) (body_start at + repeat_head))) few in
-    let none = adding_all (adding_none (first_inside f)) (omega (arith, at_end_law)) in
-    let cut : own ≡ capped (0 + own_places bs (kind_at bs at) (body_start at) 0 0) =
-    leaf_cut leaf eo ∙ ap (λ (k : ℕ). capped (0 + own_places bs k (body_start at) 0 0)) ek in
-    let group-less : own_groups (kind_at bs at) 0 ≡ 0 = ap (λ (b : Bool). cond b 1 0) (ne_eqb (kind_at bs at) 3 (λ e. omega (arith, ek, leaf_low leaf))) in
-    let no-groups : 0 + own_groups (kind_at bs at) 0 ≡ 0 = omega (arith, group-less) in
-    subst (λ (g : ℕ). Counted bs at stop own g 1) no-groups (adding_all (adding_more m (adding_none m) some none cut) (omega (arith, ends)))
-  where
-    leaf_low : (kind ≡ Nothing) ⊎ (kind ≡ Empty) ⊎ (kind ≡ Bytes) → number_of kind < 3
-    leaf_low (inl is) = omega (arith, ap number_of is)
-    leaf_low (inr (inl is)) = omega (arith, ap number_of is)
-    leaf_low (inr (inr is)) = omega (arith, ap number_of is)
+-- what is left for the loop, and the groups are few
+pub adding_left : {bs : List ℕ} {at stop from p g k : ℕ} → Counting bs at stop → Adding bs at stop from p g k → Counting bs from stop
+adding_left m a =
+    let r = a.rest m in record { records = r.records; stand = r.stand; ends = m.ends; short = m.short; few = omega (arith, r.groups_left, m.few) }
 
-    leaf_cut : (kind ≡ Nothing) ⊎ (kind ≡ Empty) ⊎ (kind ≡ Bytes) → own ≡ own_places bs (number_of kind) (body_start at) 0 0
-        → own ≡ capped (0 + own_places bs (number_of kind) (body_start at) 0 0)
-    leaf_cut (inl is) e = e ∙ rw is
-    leaf_cut (inr (inl is)) e = e ∙ rw is
-    leaf_cut (inr (inr is)) e = e ∙ rw is
+-- the loop over the members of a holder
+pub record Summing (all left : Records) (sums : Sums) : Type 0 where
+  pub same_pattern : left.pattern ≡ all.pattern
+  pub same_stop : left.stop ≡ all.stop
+  pub adding : Adding all.pattern.now all.at all.stop left.at sums.places sums.groups sums.records
+
+-- a turn of the loop
+module _ {all left next : Records} {sums : Sums} {r : Record} (m : Waiting all) (s : Summing all left sums) (g : Goes left (Some r) next) where
+  going : left.at < all.stop
+  going = omega (arith, g.0, s.same_stop)
+
+  -- the record that comes
+  pub summing_first : First all.pattern.now left.at all.stop
+  summing_first = first (adding_left m s.adding) going
+
+  -- its bytes are among those of all
+  pub summing_inside : (all.at ≤ r.at) × (r.end ≤ all.stop)
+  summing_inside = (omega (arith, g.2, s.adding.passed), rw (g.3, s.same_pattern) summing_first.fits)
+
+  -- it stands alone
+  pub summing_alone : Alone r
+  summing_alone =
+      let c : Counting left.pattern.now left.at (body_end left.pattern.now left.at) = rw s.same_pattern (only summing_first) in
+      record { counting = rw (g.1, g.2, g.3) c; ends = rw (g.1, g.2) (sym g.3) }
+
+  -- what it adds up to
+  module _ {own : Sums} (c : Counted r.pattern.now r.at r.end own.places own.groups own.records) where
+    summing_own : Counted all.pattern.now left.at (body_end all.pattern.now left.at) own.places own.groups own.records
+    summing_own = let d = rw (g.1, g.2, g.3) at c in rw s.same_pattern at d
+
+    -- the groups are few
+    pub summing_few : sums.groups + own.groups ≤ 10
+    summing_few = omega (arith, ((adding_one s.adding going summing_own refl).rest m).groups_left, m.few)
+
+    -- it is summed
+    pub summing_more : {q : ℕ} → q ≡ capped (sums.places + own.places)
+        → Summing all next (record { places = q; groups = sums.groups + own.groups; records = sums.records + 1 })
+    summing_more cut =
+        record {
+          same_pattern = g.4 ∙ s.same_pattern;
+          same_stop = g.6 ∙ s.same_stop;
+          adding = rw (g.5, g.3, s.same_pattern) (adding_one s.adding going summing_own cut);
+        }
+
+-- all are summed
+pub summing_all : {all left : Records} {sums : Sums} → Summing all left sums → left.stop ≤ left.at → AddsUp all sums
+summing_all s le = adding_all s.adding (omega (arith, s.same_stop))
+
+-- what is left stands
+pub summing_left : {all left : Records} {sums : Sums} → Waiting all → Summing all left sums → Waiting left
+summing_left m s = rw (s.same_pattern, s.same_stop) (adding_left m s.adding)
+
+-- a record alone, by what stands inside it
+pub own_counted : {bs : List ℕ} {at stop ip ig ik q : ℕ} → body_end bs at ≡ stop
+    → Counted bs (inside_start (kind_at bs at) (body_start at) (body_end bs at)) (body_end bs at) ip ig ik
+    → q ≡ capped (own_places bs (kind_at bs at) (body_start at) ip ik) → Counted bs at stop q (own_groups (kind_at bs at) ig) 1
+own_counted {bs} {at} {stop} {ip} {ig} {ik} {q} ends c cut = record { small = omega (arith, cut); sums = λ m. on m m.records m.stand m.few }
+  where
+    on : (m : Counting bs at stop) (es : List Pattern) → Row bs at stop es → groups_in es ≤ 10 → Summed es q (own_groups (kind_at bs at) ig) 1
+    on m [] h few = absurd (omega (arith, ends))
+    on m (e ∷ f ∷ es) h few = absurd (omega (arith, ends, row_long (f ∷ es) bs (body_end bs at) stop h.1))
+    on m (e ∷ []) h few =
+        let f : First bs at stop = record { tree = e; stand = h.0; fits = omega (arith, ends); ends = m.ends; short = m.short; few = omega arith } in
+        let s = c.sums (first_inside f) in
+        record {
+          places_are = λ le. omega (arith, cut, own_places_law e bs at ip ik h.0 s.places_are s.records_are (omega arith));
+          groups_are = ap (own_groups (kind_at bs at)) s.groups_are ∙ own_groups_law e bs at h.0 ∙ omega arith;
+          records_are = refl;
+        }
+
+-- nothing stands inside a record whose kind has a low number
+none_inside : {bs : List ℕ} (at : ℕ) → kind_at bs at < 3
+    → Counted bs (inside_start (kind_at bs at) (body_start at) (body_end bs at)) (body_end bs at) 0 0 0
+none_inside {bs} at low =
+    let few : ltb (kind_at bs at) 3 ≡ true = lt-ltb (kind_at bs at) 3 low in
+    let law : inside_start (kind_at bs at) (body_start at) (body_end bs at) ≡ body_end bs at =
+    ap (λ (b : Bool). cond b (body_end bs at) (cond (ltb (kind_at bs at) 6) (body_start at) (body_start at + repeat_head))) few in
+    adding_all (adding_none _ (body_end bs at)) (omega (arith, law))
+
+-- a record of such a kind, by itself
+leaf_counted : {bs : List ℕ} {at stop : ℕ} (kind leaf : Kind) → Counting bs at stop → body_end bs at ≡ stop → KindAt bs at kind → kind ≡ leaf → number_of leaf < 3
+    → Counted bs at stop (capped (own_places bs (number_of leaf) (body_start at) 0 0)) (own_groups (number_of leaf) 0) 1
+leaf_counted {bs} {at} kind leaf m ends known is low =
+    let ek : number_of leaf ≡ kind_at bs at = ap number_of (sym is) ∙ first_kind kind (first m (omega (arith, ends))) known in
+    rw ek (own_counted ends (none_inside at (omega (arith, ek))) refl)
+
+-- a byte set, and a record that takes nothing, is one place
+pub place_counted : {bs : List ℕ} {at stop : ℕ} {kind : Kind} → Counting bs at stop → body_end bs at ≡ stop → KindAt bs at kind → (kind ≡ Nothing) ⊎ (kind ≡ Bytes)
+    → Counted bs at stop 1 0 1
+place_counted m ends known (inl is) = leaf_counted _ Nothing m ends known is (omega arith)
+place_counted m ends known (inr is) = leaf_counted _ Bytes m ends known is (omega arith)
+
+-- an empty one has none
+pub empty_counted : {bs : List ℕ} {at stop : ℕ} {kind : Kind} → Counting bs at stop → body_end bs at ≡ stop → KindAt bs at kind → kind ≡ Empty → Counted bs at stop 0 0 1
+empty_counted m ends known is = leaf_counted _ Empty m ends known is (omega arith)
 
 -- what stands inside a record starts behind its header
 pub inside_after : (kind start end : ℕ) → start ≤ end → start ≤ inside_start kind start end
@@ -359,28 +412,28 @@ inside_after kind start end le = pick (ltb kind 3) (ltb kind 6)
     pick false true = omega arith
     pick false false = omega arith
 
--- the same three facts of the numbers that were read
-module _ {bs : List ℕ} {kind len r : ℕ} (from : ℕ) (ek : kind ≡ kind_at bs from) (el : len ≡ number_at bs from) (er : r ≡ inside_start kind (from + 4) (from + 4 + len)) where
+-- the same facts of the numbers that were read
+module _ {bs : List ℕ} {end r : ℕ} (at : ℕ) (kind : Kind) (ek : number_of kind ≡ kind_at bs at) (ends : body_end bs at ≡ end)
+    (er : r ≡ inside_start (number_of kind) (at + 4) end) where
   -- the records inside the one that was read
-  pub read_inside : {stop : ℕ} → First bs from stop → Counting bs r (from + 4 + len)
-  read_inside f = rw (er, ek, el) (first_inside f)
+  pub read_inside : First bs at end → Counting bs r end
+  read_inside f = rw (er, ek, sym ends) (first_inside f)
 
   -- what they add up to
-  pub read_counted : {ip ig ik : ℕ} → Counted bs r (from + 4 + len) ip ig ik
-      → Counted bs (inside_start (kind_at bs from) (body_start from) (body_end bs from)) (body_end bs from) ip ig ik
-  read_counted c = rw (er, ek, el) at c
+  pub read_counted : {ip ig ik : ℕ} → Counted bs r end ip ig ik
+      → Counted bs (inside_start (kind_at bs at) (body_start at) (body_end bs at)) (body_end bs at) ip ig ik
+  read_counted c = rw (er, ek, sym ends) at c
 
   -- what `own_places` asks of them
-  pub read_own : {stop ip ig ik : ℕ} → First bs from stop → Counted bs r (from + 4 + len) ip ig ik → OwnPlaces bs kind (from + 4) ip ik
+  pub read_own : {ip ig ik : ℕ} → First bs at end → Counted bs r end ip ig ik → OwnPlaces bs (number_of kind) (at + 4) ip ik
   read_own {ip = ip} {ik = ik} f c =
-      rw ek (own_asked f.tree bs from ip ik f.stand (omega arith) f.short c.small ((read_counted c).sums (first_inside f)).records_are)
+      rw ek (own_asked f.tree bs at ip ik f.stand (omega arith) f.short c.small ((read_counted c).sums (first_inside f)).records_are)
 
   -- their groups are few
-  pub read_groups : {stop ip ig ik : ℕ} → First bs from stop → Counted bs r (from + 4 + len) ip ig ik → ig ≤ 10
+  pub read_groups : {ip ig ik : ℕ} → First bs at end → Counted bs r end ip ig ik → ig ≤ 10
   read_groups f c = omega (arith, ((read_counted c).sums (first_inside f)).groups_are, held_groups f.tree)
 
-  -- a turn of the loop
-  pub adding_turn : {at stop p g k ip ig ik own q og : ℕ} → Counting bs at stop → Adding bs at stop from p g k → from < stop
-      → Counted bs r (from + 4 + len) ip ig ik → own ≡ own_places bs kind (from + 4) ip ik → q ≡ capped (p + own) → og ≡ own_groups kind ig
-      → Adding bs at stop (from + 4 + len) q (g + og) (k + 1)
-  adding_turn m a lt c eo cut eg = rw (eg, ek, el) (adding_more m a lt (read_counted c) (rw (eo, ek) at cut))
+  -- what the record adds up to
+  pub read_all : {ip ig ik own q og : ℕ} → Counted bs r end ip ig ik → own ≡ own_places bs (number_of kind) (at + 4) ip ik → q ≡ capped own
+      → og ≡ own_groups (number_of kind) ig → Counted bs at end q og 1
+  read_all c eo cut eg = rw (eg, ek) (own_counted ends (read_counted c) (rw (eo, ek) at cut))

@@ -17,13 +17,12 @@ use Rattle.paper.proofs.machine.Sizes.{size_written}
 use Rattle.laying.specs.Room.{most_places}
 use Rattle.laying.specs.Laid.{Holds, Kept, Lays}
 use Rattle.laying.specs.Single.{Put, StarLaid}
-use Rattle.laying.proofs.Stores.{put_holds, plain_holds, holds_kept, lays_kept, kept_both}
+use Rattle.laying.proofs.Stores.{put_holds, lays_kept, kept_both}
 use Rattle.laying.proofs.Entering.{entry_some}
-use Rattle.places.specs.Walk.{One, OneLaid, HeadLaid}
+use Rattle.places.specs.Walk.{One, OneLaid, GroupLaid}
 use Rattle.places.specs.Built.{Accepted, Built}
 use Rattle.places.proofs.Walked.{Whole, pattern_stands}
 use Rattle.places.proofs.Listing.{listed, lists_one, lists_both, lays_lists, decode_listed}
-use Rattle.places.proofs.Records.{captures_lays}
 use Rattle.places.proofs.Rows.{chain_lays}
 
 -- the places that checking told are the tree's
@@ -81,11 +80,10 @@ match_built {bs} {t} {t1} {t2} {e} {p} {g} w same sameg o put =
     built_of c (subst (λ (n : ℕ). Lays t2 bs c 0 n) long laid) (subst (λ (x : ℕ). Holds t2 bs x accept) long last) kept (omega arith)
 
 -- a search's places
-pub search_built : {bs t t1 t2 t3 t4 t5 : List ℕ} {e : Pattern} {p g : ℕ} → Whole bs e → p ≡ places e → g ≡ groups e → StarLaid 0 1 4 0 t t1
-    → HeadLaid bs 0 (length bs) 1 0 0 4 (5 + p) 1 p g t1 t2 → Put t2 (5 + p) 2 (5 + p + 1) 0 0 t3
-    → StarLaid (5 + p + 1) 0 (5 + p + 1 + 4) (g + 1) t3 t4 → Put t4 (5 + p + 1 + 4) 9 0 0 0 t5
-    → Built (places_of (wrap e) 0) (search_places e) bs t t5
-search_built {bs} {t} {t1} {t2} {t3} {t4} {t5} {e} {p} {g} w same sameg s h close z put =
+pub search_built : {bs t t1 t2 t3 t4 : List ℕ} {e : Pattern} {p g : ℕ} → Whole bs e → p ≡ places e → g ≡ groups e → StarLaid 0 1 4 0 t t1
+    → GroupLaid bs 0 (length bs) 4 (p + 6) 1 p g 0 t1 t2 → StarLaid (p + 6) 0 (p + 6 + 4) (g + 1) t2 t3 → Put t3 (p + 6 + 4) 9 0 0 0 t4
+    → Built (places_of (wrap e) 0) (search_places e) bs t t4
+search_built {bs} {t} {t1} {t2} {t3} {t4} {e} {p} {g} w same sameg s h z put =
     let inner = written_out e 1 in
     let long : p ≡ size inner = same ∙ sym (size_written e 1) in
     let any = eats every_byte in
@@ -93,36 +91,27 @@ search_built {bs} {t} {t1} {t2} {t3} {t4} {t5} {e} {p} {g} w same sameg s h clos
     let group = captures 0 inner in
     let behind = star greedy (0 + suc (groups e)) 0 any in
     let c = chain before (chain group behind) in
-    let all : 5 + p + 1 + 4 ≡ size c = omega arith in
-    let laid-behind : Lays t5 bs behind (4 + size group) (size c) =
-    subst (λ (n : ℕ). Lays t5 bs behind (4 + size group) n) all
-    (subst (λ (b : ℕ). Lays t5 bs behind b (5 + p + 1 + 4)) (omega arith)
-    (subst (λ (k : ℕ). Lays t5 bs (star greedy k 0 any) (5 + p + 1) (5 + p + 1 + 4)) (omega arith)
-    (lays_kept (star greedy (g + 1) 0 any) bs (5 + p + 1) (5 + p + 1 + 4) put.kept (omega arith) (z.laid bs)))) in
-    let laid-before : Lays t5 bs before 0 4 =
+    let all : p + 6 + 4 ≡ size c = omega arith in
+    let laid-behind : Lays t4 bs behind (4 + size group) (size c) =
+    subst (λ (n : ℕ). Lays t4 bs behind (4 + size group) n) all
+    (subst (λ (b : ℕ). Lays t4 bs behind b (p + 6 + 4)) (omega arith)
+    (subst (λ (k : ℕ). Lays t4 bs (star greedy k 0 any) (p + 6) (p + 6 + 4)) (omega arith)
+    (lays_kept (star greedy (g + 1) 0 any) bs (p + 6) (p + 6 + 4) put.kept (omega arith) (z.laid bs)))) in
+    let laid-before : Lays t4 bs before 0 4 =
     lays_kept before bs 0 4 put.kept (omega arith)
-    (lays_kept before bs 0 4 z.kept (omega arith)
-    (lays_kept before bs 0 4 close.kept (omega arith) (lays_kept before bs 0 4 h.kept (omega arith) (s.laid bs)))) in
-    let laid-inner : Lays t5 bs inner 5 (5 + p) =
-    lays_kept inner bs 5 (5 + p) put.kept (omega arith)
-    (lays_kept inner bs 5 (5 + p) z.kept (omega arith)
-    (lays_kept inner bs 5 (5 + p) close.kept (omega arith)
-    (h.laid (whole_one 5 (5 + p) w same sameg (omega (arith, w.few_places)) (omega (arith, w.few_places)))))) in
-    let laid-group : Lays t5 bs group 4 (5 + p + 1) =
-    captures_lays t5 bs 0 inner 4 (5 + p + 1) p long
-    (holds_kept put.kept (omega arith) (holds_kept z.kept (omega arith) (holds_kept close.kept (omega arith) h.head)))
-    laid-inner
-    (holds_kept put.kept (omega arith) (holds_kept z.kept (omega arith) (plain_holds bs close (omega arith)))) in
-    let laid : Lays t5 bs c 0 (size c) =
-    chain_lays t5 bs before (chain group behind) 0 (size c) 4 4 refl (sym (entry_some (size (chain group behind)) 4 (size c) (λ none. omega arith)))
+    (lays_kept before bs 0 4 z.kept (omega arith) (lays_kept before bs 0 4 h.kept (omega arith) (s.laid bs))) in
+    let laid-group : Lays t4 bs group 4 (p + 6) =
+    lays_kept group bs 4 (p + 6) put.kept (omega arith)
+    (lays_kept group bs 4 (p + 6) z.kept (omega arith)
+    (h.laid (whole_one 5 (5 + p) w same sameg (omega (arith, w.few_places)) (omega (arith, w.few_places))))) in
+    let laid : Lays t4 bs c 0 (size c) =
+    chain_lays t4 bs before (chain group behind) 0 (size c) 4 4 refl (sym (entry_some (size (chain group behind)) 4 (size c) (λ none. omega arith)))
     laid-before
-    (chain_lays t5 bs group behind 4 (size c) (size group) (5 + p + 1) refl (omega arith) laid-group laid-behind) in
+    (chain_lays t4 bs group behind 4 (size c) (size group) (p + 6) refl (omega arith) laid-group laid-behind) in
     let last = put_holds bs put (omega arith) (λ six. absurd (omega arith)) in
     let high = search_places e in
     let kept = kept_both 0 high
-    (kept_both 0 high
-    (kept_both 0 high (kept_both 0 high s.kept h.kept (omega arith) (omega arith) (omega arith) (omega arith)) close.kept (omega arith)
-    (omega arith) (omega arith) (omega arith))
-    z.kept (omega arith) (omega arith) (omega arith) (omega arith))
+    (kept_both 0 high (kept_both 0 high s.kept h.kept (omega arith) (omega arith) (omega arith) (omega arith)) z.kept (omega arith) (omega arith)
+    (omega arith) (omega arith))
     put.kept (omega arith) (omega arith) (omega arith) (omega arith) in
-    built_of c laid (subst (λ (x : ℕ). Holds t5 bs x accept) all last) kept (omega arith)
+    built_of c laid (subst (λ (x : ℕ). Holds t4 bs x accept) all last) kept (omega arith)

@@ -12,11 +12,10 @@ use Rattle.paper.specs.Machine.{Core, captures, size, written_out, opening, clos
 use Rattle.paper.proofs.machine.Sizes.{size_written}
 use Rattle.pattern.specs.declared.Kind.{Kind}
 use Rattle.laying.specs.Laid.{Holds, Kept, entry_of, Lays}
-use Rattle.laying.specs.Single.{Fitting, Put, Ranged, RangedLaid, Head}
+use Rattle.laying.specs.Single.{Put, Ranged, RangedLaid}
 use Rattle.laying.proofs.Stores.{put_holds, plain_holds, holds_kept, lays_kept, lays_none, kept_none, kept_both}
-use Rattle.laying.proofs.Entering.{entry_small, at_least_one}
-use Rattle.laying.proofs.Single.{head_stands}
-use Rattle.places.specs.Walk.{One, OneLaid, HeadLaid, Several, SeveralLaid, Repeat, RepeatLaid}
+use Rattle.laying.proofs.Entering.{at_least_one}
+use Rattle.places.specs.Walk.{One, OneLaid, Group, GroupLaid, Several, SeveralLaid, Repeat, RepeatLaid}
 use Rattle.places.specs.Standing.{Row}
 use Rattle.places.specs.Sums.{number_of, KindAt}
 use Rattle.places.proofs.Adding.{row_long, kind_known}
@@ -125,21 +124,46 @@ captures_lays t bs k e base next p ep =
     (λ a b c. (a, b, c))
 
 -- the open, what the group holds and the close lay the group
-pub group_laid : {bs : List ℕ} {at stop base next first n gs : ℕ} {t t1 t2 : List ℕ} → One bs at stop base next first n gs → kind_at bs at ≡ 3 → HeadLaid bs (at + 4) stop 1 first 0 base (base + 1 + (n - 2)) (first + 1) (n - 2) (gs - 1) t t1
-    → Put t1 (base + 1 + (n - 2)) 2 next first 0 t2 → OneLaid bs at stop base next first n gs t t2
-group_laid {bs} {at} {stop} {base} {next} {first} {n} {t2 = t2} m0 three h put =
+pub captured_laid : {bs : List ℕ} {at stop base next first p g k v : ℕ} {t t1 t2 t3 : List ℕ} → v ≡ entry_of p (base + 1) (base + 1 + p)
+    → Put t base 1 v k 0 t1 → OneLaid bs at stop (base + 1) (base + 1 + p) first p g t1 t2 → Put t2 (base + 1 + p) 2 next k 0 t3
+    → GroupLaid bs at stop base next first p g k t t3
+captured_laid {bs} {base = base} {first = first} {p = p} {k = k} {t1 = t1} {t3 = t3} ev first_place o last_place =
+    let high = base + 1 + p + 1 in
     record {
-      kept = kept_both base (base + n) h.kept put.kept (omega arith) (omega (arith, group_two m0 three)) (omega arith)
-          (omega (arith, group_two m0 three));
+      kept = kept_both base high (kept_both base high first_place.kept o.kept (omega arith) (omega arith) (omega arith) (omega arith)) last_place.kept (omega arith)
+          (omega arith) (omega arith) (omega arith);
       laid = λ m.
-          let o = group_one m three in
+          let e = written_out m.tree first in
+          let ep : p ≡ size e = m.places_are ∙ sym (size_written m.tree first) in
+          captures_lays t3 bs k e base _ p ep
+          (holds_kept last_place.kept (omega arith) (holds_kept o.kept (omega arith)
+          (subst (λ (v : ℕ). Holds t1 bs base (opening k v)) ev (plain_holds bs first_place (omega arith)))))
+          (lays_kept e bs (base + 1) (base + 1 + p) last_place.kept (omega arith) (o.laid m))
+          (plain_holds bs last_place (omega arith));
+    }
+
+-- what is asked of a group that is a record
+abbrev pub group_ask : {bs : List ℕ} {at stop base next first n gs : ℕ} → One bs at stop base next first n gs → kind_at bs at ≡ 3
+    → Group bs (at + 4) stop base next (first + 1) (n - 2) (gs - 1) first
+group_ask m three =
+    record {
+      held = group_one m three;
+      number = omega (arith, m.inside.few);
+      room = omega (arith, m.room, group_two m three);
+      follows = m.follows;
+    }
+
+-- it is the record
+pub group_laid : {bs : List ℕ} {at stop base next first n gs : ℕ} {t t1 : List ℕ} → One bs at stop base next first n gs → kind_at bs at ≡ 3
+    → GroupLaid bs (at + 4) stop base next (first + 1) (n - 2) (gs - 1) first t t1 → OneLaid bs at stop base next first n gs t t1
+group_laid {bs} {at} {base = base} {next = next} {first = first} {n = n} {t1 = t1} m0 three h =
+    let whole : base + 1 + (n - 2) + 1 ≡ base + n = omega (arith, group_two m0 three) in
+    record {
+      kept = rw whole at h.kept;
+      laid = λ m.
           let v = group_view m.tree bs at m.inside.stand three in
-          let e = written_out v.inner (first + 1) in
-          let ep : n - 2 ≡ size e = o.places_are ∙ sym (size_written v.inner (first + 1)) in
-          as_tree t2 bs first base next v.is
-          (subst (λ (k : ℕ). Lays t2 bs (captures first (written_out v.inner k)) base next) (add-one first)
-          (captures_lays t2 bs first e base next (n - 2) ep (holds_kept put.kept (omega arith) h.head)
-          (lays_kept e bs (base + 1) (base + 1 + (n - 2)) put.kept (omega arith) (h.laid o)) (plain_holds bs put (omega arith))));
+          as_tree t1 bs first base next v.is
+          (subst (λ (k : ℕ). Lays t1 bs (captures first (written_out v.inner k)) base next) (add-one first) (h.laid (group_one m three)));
     }
 
 -- a repeat
@@ -218,24 +242,3 @@ empty_laid {bs} {at} m one = nothing_to_lay (m.places_are ∙ ap places (empty_v
 -- the kind that was found is the record's
 pub kind_found : {bs : List ℕ} {at stop base next first n gs : ℕ} {k v : Kind} → KindAt bs at k → k ≡ v → One bs at stop base next first n gs → kind_at bs at ≡ number_of v
 kind_found {bs} {at} at_kind is m = sym (at_kind (kind_known m.tree bs at m.inside.stand)) ∙ ap number_of is
-
--- a head and the expression behind it
-pub head_one : {bs : List ℕ} {at stop kind a n base next first p g v : ℕ} {t t1 t2 : List ℕ} → v ≡ entry_of p (base + 1) next → Head kind a n
-    → Put t base kind v a n t1 → OneLaid bs at stop (base + 1) next first p g t1 t2 → HeadLaid bs at stop kind a n base next first p g t t2
-head_one {bs} {base = base} {p = p} ev h put one =
-    record {
-      kept = kept_both base (base + 1 + p) put.kept one.kept (omega arith) (omega arith) (omega arith) (omega arith);
-      head = holds_kept one.kept (omega arith) (head_stands bs ev h put);
-      laid = one.laid;
-    }
-
--- the numbers of a head fit
-pub head_fits : {bs t : List ℕ} {at stop base next first p g kind a n v : ℕ} → One bs at stop (base + 1) next first p g → Head kind a n → 2040 ≤ length t
-    → v ≡ entry_of p (base + 1) next → Fitting t base v a n
-head_fits {base = base} {next = next} {p = p} m h room ev =
-    record {
-      room = omega (arith, m.room);
-      next_fits = omega (arith, ev, entry_small p (base + 1) next {most = 65535} (omega (arith, m.room)) (omega (arith, m.follows)));
-      a_fits = omega (arith, h.a_small);
-      n_fits = omega (arith, h.n_small);
-    }

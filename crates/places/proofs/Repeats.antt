@@ -20,7 +20,6 @@ use Rattle.laying.proofs.Stores.{kept_both}
 use Rattle.laying.proofs.Entering.{passes_none, first_inner}
 use Rattle.laying.proofs.Sizes.{optional_maybes}
 use Rattle.places.specs.Walk.{One, OneLaid, Repeat, RepeatLaid}
-use Rattle.places.proofs.Adding.{counts_right}
 
 -- they are the repeat written out
 passes_core : (endless : Bool) (least most : ℕ) (mode : Mode) (first g : ℕ) (e : Core)
@@ -45,10 +44,6 @@ module _ {bs : List ℕ} {start stop base next first n g least most mode : ℕ} 
 
   mode_is : mode_of mode ≡ m.mode
   mode_is = ap mode_of (ed ∙ m.numbers.mode_is) ∙ mode_of_number m.mode
-
-  -- the most is no less than the least
-  pub counts_ordered : least ≤ most
-  counts_ordered = omega (arith, el, em, (counting.bounded_counts (number_at bs start) (number_at bs (start + 2)) (counts_right m.numbers)).in_order)
 
   -- the places of the passes are the repeat's
   pub total : {may : ℕ} → may ≡ optional_passes least (upper_of most) → n ≡ pass_places least may (places m.tree)

@@ -5,7 +5,6 @@ use mathlib.Core.Bool.{Bool, true, false, false≢true}
 use mathlib.Core.List.{List, [], ◌∷◌}
 use native.Mathlib.Omega.{arith}
 use mir.Val.{bool_byte as from_bool}
-use lib.ListN.{length}
 use Rattle.paper.specs.Pattern.{Pattern, places, groups}
 use Rattle.paper.specs.Check.{body_end}
 use Rattle.paper.specs.Machine.{Core, chain, either, size, written_out, fork}
@@ -13,7 +12,7 @@ use Rattle.paper.proofs.machine.Sizes.{size_written}
 use Rattle.laying.specs.Room.{most_places}
 use Rattle.pattern.specs.Walk.{places_in, groups_in}
 use Rattle.laying.specs.Laid.{Holds, entry_of, Lays}
-use Rattle.laying.specs.Single.{Fitting, Put}
+use Rattle.laying.specs.Single.{Put}
 use Rattle.laying.proofs.Stores.{plain_holds, holds_kept, lays_kept, kept_both}
 use Rattle.laying.proofs.Entering.{entry_small}
 use Rattle.places.specs.Sums.{Counting, Counted}
@@ -330,14 +329,9 @@ pub record Along (part : Part) (forks : Bool) (left : Part) (end : ℕ) (before 
   pub same_next : left.next ≡ part.next
   pub row : Several part.pattern.now left.at part.stop forks left.base part.next left.first left.places left.groups
   pub end_is : end ≡ body_end part.pattern.now left.at
-  pub passed : part.at ≤ left.at
+  pub passed : part.at + 4 ≤ left.at
   pub laid : (after : List ℕ) → SeveralLaid part.pattern.now left.at part.stop forks left.base part.next left.first left.places left.groups now after
       → RowMade part forks before after
-
--- all records are left
-pub along_all : {part : Part} {forks : Bool} {end : ℕ} (t : List ℕ) → RowAsked part forks → end ≡ body_end part.pattern.now part.at → Along part forks part end t t
-along_all t m ee =
-    record { same_pattern = refl; same_stop = refl; same_next = refl; row = m; end_is = ee; passed = omega arith; laid = λ after r. r }
 
 -- one record less
 pub along_one : {part left : Part} {forks : Bool} {end end' head out p g k : ℕ} {t0 t t1 t2 : List ℕ} → Along part forks left end t0 t → (end ≡ part.stop → ⊥)

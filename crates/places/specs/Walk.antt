@@ -3,10 +3,10 @@ use Rattle.std.specs.Prelude.{ℕ, ◌+◌, ◌≤◌, ◌<◌, ◌≡◌, Bool,
 use Rattle.paper.specs.Limits.{pattern_bytes, pattern_places, row_count}
 use Rattle.paper.specs.Pattern.{Mode, Upper, Pattern, places, groups, repeat_places}
 use Rattle.paper.specs.Check.{body_end, repeat_head}
-use Rattle.paper.specs.Machine.{written_out}
-use Rattle.paper.specs.Tables.{fork_place, place_of}
+use Rattle.paper.specs.Machine.{captures, written_out}
+use Rattle.paper.specs.Tables.{fork_place}
 use Rattle.pattern.specs.Walk.{groups_in}
-use Rattle.laying.specs.Laid.{Holds, Kept, entry_of, Lays}
+use Rattle.laying.specs.Laid.{Kept, entry_of, Lays}
 use Rattle.laying.specs.Room.{most_places}
 use Rattle.laying.specs.Single.{Put}
 use Rattle.places.specs.Standing.{Passes, Stands, Row, row_places, row_core}
@@ -34,10 +34,16 @@ pub record OneLaid (bs : List ℕ) (at stop base next first n g : ℕ) (before a
   pub kept : Kept base (base + n) before after
   pub laid : (m : One bs at stop base next first n g) → Lays after bs (written_out m.tree first) base next
 
-pub record HeadLaid (bs : List ℕ) (at stop kind a n base next first p g : ℕ) (before after : List ℕ) : Type 0 where
-  pub kept : Kept base (base + 1 + p) before after
-  pub head : Holds after bs base (place_of bs kind (entry_of p (base + 1) next) a n)
-  pub laid : (m : One bs at stop (base + 1) next first p g) → Lays after bs (written_out m.tree first) (base + 1) next
+-- `captured`: the record that a group holds, and room for its open and its close
+pub record Group (bs : List ℕ) (at stop base next first p g k : ℕ) : Type 0 where
+  pub held : One bs at stop (base + 1) (base + 1 + p) first p g
+  pub number : k ≤ row_count
+  pub room : base + 1 + p + 1 ≤ most_places
+  pub follows : next ≤ most_places
+
+pub record GroupLaid (bs : List ℕ) (at stop base next first p g k : ℕ) (before after : List ℕ) : Type 0 where
+  pub kept : Kept base (base + 1 + p + 1) before after
+  pub laid : (m : One bs at stop (base + 1) (base + 1 + p) first p g) → Lays after bs (captures k (written_out m.tree first)) base next
 
 -- `row`: at least one record, and room for all
 pub record Several (bs : List ℕ) (at stop : ℕ) (forks : Bool) (base next first n g : ℕ) : Type 0 where
@@ -96,17 +102,17 @@ OneAsked p = One p.pattern.now p.at p.stop p.base p.next p.first p.places p.grou
 abbrev pub OneMade : Part → List ℕ → List ℕ → Type 0
 OneMade p = OneLaid p.pattern.now p.at p.stop p.base p.next p.first p.places p.groups
 
-abbrev pub HeadAsked : Part → Type 0
-HeadAsked p = One p.pattern.now p.at p.stop (p.base + 1) p.next p.first p.places p.groups
+abbrev pub GroupAsked : Part → ℕ → Type 0
+GroupAsked p k = Group p.pattern.now p.at p.stop p.base p.next p.first p.places p.groups k
 
-abbrev pub HeadMade : Part → ℕ → ℕ → ℕ → List ℕ → List ℕ → Type 0
-HeadMade p kind a n = HeadLaid p.pattern.now p.at p.stop kind a n p.base p.next p.first p.places p.groups
+abbrev pub GroupMade : Part → ℕ → List ℕ → List ℕ → Type 0
+GroupMade p k = GroupLaid p.pattern.now p.at p.stop p.base p.next p.first p.places p.groups k
 
 abbrev pub RowAsked : Part → Bool → Type 0
-RowAsked p forks = Several p.pattern.now p.at p.stop forks p.base p.next p.first p.places p.groups
+RowAsked p forks = Several p.pattern.now (p.at + 4) p.stop forks p.base p.next p.first p.places p.groups
 
 abbrev pub RowMade : Part → Bool → List ℕ → List ℕ → Type 0
-RowMade p forks = SeveralLaid p.pattern.now p.at p.stop forks p.base p.next p.first p.places p.groups
+RowMade p forks = SeveralLaid p.pattern.now (p.at + 4) p.stop forks p.base p.next p.first p.places p.groups
 
 abbrev pub RepeatAsked : Part → Type 0
 RepeatAsked p = Repeat p.pattern.now (p.at + 4) p.stop p.base p.next p.first p.places p.groups

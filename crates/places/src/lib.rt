@@ -41,8 +41,7 @@ pub fn build_search(pattern: &[u8], table: &mut [u16], places: usize, groups: us
     requires room { table_room ≤ length table.old }
     ensures { BuiltSearch pattern.now table.old table.new result }
 {
-    let close = 5 + places;
-    let second = close + 1;
+    let second = places + 6;
     let end = second + 4;
     let whole = Part {
         pattern,
@@ -52,12 +51,11 @@ pub fn build_search(pattern: &[u8], table: &mut [u16], places: usize, groups: us
         places,
         groups,
         base: 4,
-        next: close,
+        next: second,
     };
     let mut lent = Table { numbers: table };
     lent.any_star(0, Pattern::LAZY, 4, 0);
-    whole.headed(&mut lent, PlaceKind::Open as u16, 0, 0);
-    lent.put(close, Place::plain(PlaceKind::Close as u16, second));
+    whole.captured(&mut lent, 0);
     lent.any_star(second, Pattern::GREEDY, end, groups + 1);
     lent.put(end, Place::plain(PlaceKind::Accept as u16, 0));
     end + 1

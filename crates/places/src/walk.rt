@@ -3,10 +3,9 @@ ghost use Rattle.std.specs.Prelude.{◌≡◌, ◌+◌, ◌≤◌, length};
 ghost use Rattle.paper.specs.Limits.{pattern_bytes};
 ghost use Rattle.paper.specs.Check.{body_end, kind_at};
 ghost use Rattle.laying.specs.Lent.{Writes};
-ghost use Rattle.laying.specs.Single.{Head};
-ghost use Rattle.places.specs.Walk.{Joining, Joined, OneAsked, OneMade, HeadAsked, HeadMade, RowAsked, RowMade, RepeatAsked, RepeatMade};
+ghost use Rattle.places.specs.Walk.{Joining, Joined, OneAsked, OneMade, GroupAsked, GroupMade, RowAsked, RowMade, RepeatAsked, RepeatMade};
 
-use crate::sums::{alone, known_kind};
+use crate::sums::{Record, known_kind};
 use laying::repeats::{Pass, Passes, inner_places, inner_start};
 use laying::{Place, Table, entered};
 use pattern::{Kind, Pattern, PlaceKind, counts};
@@ -36,21 +35,39 @@ fn record_end(pattern: &[u8], at: usize) -> usize
 }
 
 impl Part<'_> {
-    // A place that stands before one expression, and that expression behind it: an open, or a begin of a pass.
+    // The places of a group: its open, what it holds, its close. The part is what it holds, and its places begin with the open.
     #[cycle(walking)]
-    pub fn headed(self, table: &mut Table, kind: u16, a: usize, n: usize)
-        requires one { HeadAsked self }
-        requires head { Head kind a n }
-        ensures { Writes (HeadMade self.entry kind a n) table.old table.new }
+    pub fn captured(self, table: &mut Table, group: usize)
+        requires { GroupAsked self group }
+        ensures { Writes (GroupMade self.entry group) table.old table.new }
     {
         let base = self.base + 1;
-        let next = entered(self.places, base, self.next);
-        table.put(self.base, Place { kind, next, a, n });
-        Part { base, ..self }.one(table);
+        let close = base + self.places;
+        let open = Place {
+            kind: PlaceKind::Open as u16,
+            next: entered(self.places, base, close),
+            a: group,
+            n: 0,
+        };
+        let end = Place {
+            kind: PlaceKind::Close as u16,
+            next: self.next,
+            a: group,
+            n: 0,
+        };
+        table.put(self.base, open);
+        Part {
+            base,
+            next: close,
+            ..self
+        }
+        .one(table);
+        table.put(close, end);
     }
 
     // The places of one repeat: the inner part of its first pass, and the passes around it and its copies.
     #[cycle(walking)]
+    #[inline(never)]
     fn repeated(self, table: &mut Table)
         requires { RepeatAsked self }
         ensures { Writes (RepeatMade self.entry) table.old table.new }
@@ -69,14 +86,13 @@ impl Part<'_> {
             next: model + places,
             ..self
         };
-        let pass = Pass {
-            model,
-            places,
-            first: self.first,
-            groups: self.groups,
-        };
         let passes = Passes {
-            pass,
+            pass: Pass {
+                model,
+                places,
+                first: self.first,
+                groups: self.groups,
+            },
             must,
             may,
             endless: most == Pattern::NO_UPPER_END,
@@ -88,7 +104,7 @@ impl Part<'_> {
         passes.lay(table);
     }
 
-    // The places of one record.
+    // The places of one record. What lays the records inside it stands apart: most records hold none, and theirs is the shorter way.
     #[cycle(walking)]
     pub fn one(self, table: &mut Table)
         requires { OneAsked self }
@@ -97,44 +113,39 @@ impl Part<'_> {
         if self.places == 0 {
             return;
         }
-        let start = self.at + 4;
-        let inner = Part { at: start, ..self };
         match known_kind(self.pattern, self.at) {
             Kind::Nothing => table.put(self.base, Place::plain(PlaceKind::Stop as u16, 0)),
             Kind::Empty => {}
-            Kind::Bytes => table.set_place(self.pattern, start, self.stop, self.base, self.next),
+            Kind::Bytes => table.set_place(
+                self.pattern,
+                self.at + 4,
+                self.stop,
+                self.base,
+                self.next,
+            ),
             Kind::Group => self.group(table),
-            Kind::Sequence => inner.row(table, false),
-            Kind::Alternation => inner.row(table, true),
+            Kind::Sequence => self.row(table, false),
+            Kind::Alternation => self.row(table, true),
             Kind::Repeat => self.repeated(table),
         }
     }
 
-    // The places of a group: its open, what it holds, its close.
+    // The places of a group.
     #[cycle(walking)]
+    #[inline(never)]
     fn group(self, table: &mut Table)
         requires one { OneAsked self }
         requires group { kind_at self.pattern.now self.at ≡ 3 }
         ensures { Writes (OneMade self.entry) table.old table.new }
     {
-        let places = self.places - 2;
-        let close = self.base + 1 + places;
-        let inner = Part {
+        let held = Part {
             at: self.at + 4,
             first: self.first + 1,
-            places,
+            places: self.places - 2,
             groups: self.groups - 1,
-            next: close,
             ..self
         };
-        inner.headed(table, PlaceKind::Open as u16, self.first, 0);
-        let end = Place {
-            kind: PlaceKind::Close as u16,
-            next: self.next,
-            a: self.first,
-            n: 0,
-        };
-        table.put(close, end);
+        held.captured(table, self.first);
     }
 
     // Where a record of so many places leads that others follow, `rest` places from `second` on: in a sequence to the next that has places,
@@ -160,17 +171,27 @@ impl Part<'_> {
         }
     }
 
-    // The places of records that stand one after another, as a sequence or with the forks of an alternation, one before each record but the last.
+    // The places of the records inside one, as a sequence or with the forks of an alternation, one before each record but the last.
     #[cycle(walking)]
+    #[inline(never)]
     fn row(self, table: &mut Table, forks: bool)
         requires { RowAsked self forks }
         ensures { Writes (RowMade self.entry forks) table.old table.new }
     {
         let head = usize::from(forks);
-        let mut left = self;
-        let mut end = record_end(self.pattern, self.at);
+        let mut left = Part {
+            at: self.at + 4,
+            ..self
+        };
+        let mut end = record_end(self.pattern, left.at);
+        // No `for` over `Records`: the last record is not counted, it has what is left, and each would be asked whether it is the last.
         while end != self.stop {
-            let own = alone(self.pattern, left.at, end);
+            let record = Record {
+                pattern: self.pattern,
+                at: left.at,
+                end,
+            };
+            let own = record.sums();
             let base = left.base + head;
             let second = base + own.places;
             let rest = left.places - head - own.places;

@@ -3,18 +3,18 @@ ghost use Rattle.std.specs.Prelude.{◌≤◌};
 ghost use Rattle.printer.specs.Gathered.{Gathered};
 
 use crate::Printer;
-use matcher::Answer;
-use pattern::Spans;
+use matcher::Found;
+use pattern::{Refused, Spans};
 
 impl Printer {
     // A refusal: its number and its place.
-    pub fn refusal(&mut self, number: usize, place: usize)
+    pub fn refusal(&mut self, refused: Refused)
         ensures { Gathered self.old self.new }
     {
         self.bytes(b"refused ");
-        self.decimal(number as u64);
+        self.decimal(refused.refusal.number() as u64);
         self.bytes(b" ");
-        self.decimal(place as u64);
+        self.decimal(refused.place as u64);
     }
 
     // A row after a space: its start and end, or a dash where it is absent.
@@ -53,13 +53,12 @@ impl Printer {
     }
 
     // What a whole match or a search answers: a refusal, or what it found.
-    pub fn found(&mut self, answer: Answer, table: [u16; Spans::NUMBERS], groups: usize)
+    pub fn found(&mut self, answer: Result<Found, Refused>, table: [u16; Spans::NUMBERS], groups: usize)
         ensures { Gathered self.old self.new }
     {
         match answer {
-            Answer::Refused { number, place } => self.refusal(number, place),
-            Answer::Match { steps } => self.outcome(Some(table), steps, groups),
-            Answer::NoMatch { steps } => self.outcome(None, steps, groups),
+            Ok(found) => self.outcome(found.matched.then_some(table), found.steps, groups),
+            Err(refused) => self.refusal(refused),
         }
     }
 }

@@ -113,36 +113,20 @@ impl Printer {
         }
     }
 
-    // Where the next byte goes, for which a full buffer is written out.
+    // All bytes of a slice in order, as they are; a full buffer is written out for the next byte.
     #[tactic(auto, unfolding(crate::specs::Gathered::failures))]
-    #[inline]
-    fn room(&mut self) -> Option<usize>
-        ensures gathered { Gathered self.old self.new }
-        ensures told { result ≡ self.new }
-        ensures inside { IfSome result (λ n. n < 65536) }
-    {
-        if self.gathered == Some(BYTES) {
-            self.flush();
-        }
-        self.gathered
-    }
-
-    // All bytes of a slice in order, as they are.
-    #[tactic(auto, unfolding(crate::specs::Gathered::failures))]
-    #[inline]
     fn plain(&mut self, s: &[u8])
         ensures { Gathered self.old self.new }
     {
-        let mut rest = s;
-        // no `for`: how much a turn gathers is known by the room alone
-        while !rest.is_empty() {
-            let Some(n) = self.room() else {
+        for &b in s {
+            if self.gathered == Some(BYTES) {
+                self.flush();
+            }
+            let Some(n) = self.gathered else {
                 return;
             };
-            let (now, later) = rest.split_at(rest.len().min(BYTES - n));
-            self.buffer[n..n + now.len()].copy_from_slice(now);
-            self.gathered = Some(n + now.len());
-            rest = later;
+            self.buffer[n] = b;
+            self.gathered = Some(n + 1);
         }
     }
 
@@ -164,8 +148,8 @@ impl Printer {
         }
     }
 
-    // The bytes of a slice, in order.
-    #[inline]
+    // The bytes of a slice, in order. Inlined, since most slices are a few bytes of words and numbers.
+    #[inline(always)]
     pub fn bytes(&mut self, s: &[u8])
         ensures { Gathered self.old self.new }
     {

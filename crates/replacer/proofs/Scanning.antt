@@ -1,29 +1,32 @@
--- Laws of the two passes over the line: what is measured or written so far and what the scan gives from here on make up the whole. Each turn
--- takes its bytes, its replacement and its steps from what was left, and goes on further in the line.
+-- Laws of the scan over the line, into whatever output: what is appended and counted so far and what the scan gives from here on make up the
+-- whole. Each turn takes its bytes, its replacement and its steps from what was left, and goes on further in the line.
 use Prim.Native.Nat.{ℕ, suc, ◌+◌, ◌-◌, ◌≤◌, ◌<◌}
 use mathlib.Core.Path.{◌≡◌, refl, sym, ap, subst, ◌∙◌}
 use mathlib.Core.Bool.{Bool, true, false, cond}
 use mathlib.Core.List.{List, [], ◌++◌, append-nil, append_assoc}
 use native.Mathlib.Omega.{arith}
-use lib.ListN.{length, drop, length-append, take-append-drop}
-use Rattle.paper.specs.Limits.{line_bytes, absent}
+use lib.ListN.{length, drop}
+use mir.Val.{bool_byte}
+use Rattle.std.proofs.Common.{Option, Some, None, is_some, unwrap_or}
+use Rattle.paper.specs.Limits.{line_bytes}
 use Rattle.paper.specs.Refusal.{accepted}
 use Rattle.paper.specs.Layout.{Lawful}
 use Rattle.paper.specs.Pattern.{Pattern}
 use Rattle.paper.specs.Check.{pattern_of}
-use Rattle.paper.specs.Replace.{Scanned, precede}
+use Rattle.paper.specs.Match.{search_steps}
+use Rattle.paper.specs.Replace.{Scan, Scanned, precede}
+use Rattle.paper.specs.ScanTurn as paper
+use Rattle.paper.specs.ScanTurn.{turn_at, turn_bytes, TurnFits}
 use Rattle.paper.proofs.replacing.ReplaceBound.{most_sum, replace_all_most}
-use Rattle.paper.specs.ScanTurn.{turn_bytes, TurnFits}
 use Rattle.paper.proofs.replacing.ScanWays.{turn_count, turn_rest, ended, turn_fits, scan_from, scan_whole, scan_turn}
-use Rattle.paper.proofs.replacing.ScanLengths.{most_output, replace_all_short}
+use Rattle.paper.proofs.replacing.ScanLengths.{replace_all_short}
 use Rattle.machine.specs.Machine.{Ready}
 use Rattle.turns.specs.declared.Turn.{Turn}
 use Rattle.turns.specs.Accepted.{accepted_or, pieces_of, Right}
+use Rattle.turns.specs.Turn.{option_of, as_turn, kept}
+use Rattle.turns.proofs.Turning.{kept_bytes, kept_fits}
 use Rattle.replacer.specs.Given.{tree_of, whole_of}
-use Rattle.turns.specs.Turn.{last_of, as_turn}
-use Rattle.turns.specs.Appended.{Appended}
-use Rattle.replacer.specs.Scans.{Turns, Measures}
-use Rattle.turns.proofs.Written.{nothing_written, written_on}
+use Rattle.replacer.specs.Scans.{Turns}
 
 -- ---- what a machine that is ready says of the pattern
 
@@ -39,164 +42,150 @@ ready_accepts m = m.found ∙ ap accepted (sym (ready_tree m))
 pub ready_lawful : {pattern code : List ℕ} {places deep : ℕ} (m : Ready pattern code true places deep) → Lawful (tree_of pattern)
 ready_lawful m = subst Lawful (sym (ready_tree m)) m.lawful
 
--- ---- what the two passes keep
+-- ---- what is left of the line
 
-module _ (pattern template line : List ℕ) where
-  -- what the scan gives from here on
-  abbrev pub left_of : Bool → ℕ → ℕ → Scanned
-  left_of goes from last = cond goes (scan_from (tree_of pattern) template line (pieces_of template) from (last_of last)) ended
+-- each turn leaves less of it
+abbrev pub ahead : List ℕ → Option ℕ → ℕ
+ahead line (Some from) = suc (length line - from)
+ahead line None = 0
 
-  -- measuring: what is counted and what is left make up the whole
-  pub record Summing (from last : ℕ) (goes : Bool) (total replacements steps : ℕ) : Type 0 where
-    pub inside : goes ≡ true → from ≤ length line
-    pub written : total + length (left_of goes from last).output ≡ length (whole_of pattern template line).output
-    pub replaced : replacements + (left_of goes from last).replaced ≡ (whole_of pattern template line).replaced
-    pub stepped : steps + (left_of goes from last).steps ≡ (whole_of pattern template line).steps
-
-  -- writing: what is written and what is left make up the whole
-  pub record Filling (entry : List ℕ) (from last : ℕ) (goes : Bool) (buffer : List ℕ) (at : ℕ) : Type 0 where
-    pub inside : goes ≡ true → from ≤ length line
-    pub done : List ℕ
-    pub same : done ++ (left_of goes from last).output ≡ (whole_of pattern template line).output
-    pub written : Appended entry buffer 0 done at
-
--- each turn leaves less of the line
-abbrev pub ahead : List ℕ → Bool → ℕ → ℕ
-ahead line goes from = cond goes (suc (length line - from)) 0
-
-ahead_falls : (line : List ℕ) (goes : Bool) (from : ℕ) (on : Bool) (next : ℕ) → goes ≡ true → (on ≡ true → (from < next) × (next ≤ length line))
-    → ahead line on next < ahead line goes from
-ahead_falls line goes from on next go further = subst (λ (b : Bool). ahead line on next < ahead line b from) (sym go) (look on further)
-  where
-    look : (b : Bool) → (b ≡ true → (from < next) × (next ≤ length line)) → ahead line b next < suc (length line - from)
-    look true f = let on = f refl in omega arith
-    look false f = omega arith
+-- what the scan gives from here on
+abbrev pub left_of : List ℕ → List ℕ → List ℕ → Option ℕ → Option ℕ → Scanned
+left_of pattern template line goes last =
+    cond (is_some goes) (scan_from (tree_of pattern) template line (pieces_of template) (unwrap_or goes 0) (option_of last)) ended
 
 -- ---- a turn of the scan
 
-module _ {pattern line : List ℕ} (small : length line ≤ line_bytes) {from last : ℕ} {t : Turn} (turns : Turns pattern line from last t) (inside : from ≤ length line) where
+-- what follows a turn, by what the code keeps of it
+kept_rest : (scan : Scan) (t : paper.Turn) → turn_rest scan (kept t) ≡ turn_rest scan t
+kept_rest scan t = look t.goes
+  where
+    look : (goes : Bool) → cond goes (scan (cond goes t.next 0) t.last) ended ≡ cond goes (scan t.next t.last) ended
+    look true = refl
+    look false = refl
+
+module _ {pattern line : List ℕ} (small : length line ≤ line_bytes) {from : ℕ} {last : Option ℕ} {t : Turn} (turns : Turns pattern line from last t)
+    (inside : from ≤ length line) where
   pub turns_fit : TurnFits (length line) from (as_turn t)
-  turns_fit = subst (TurnFits (length line) from) (sym turns.same) (turn_fits (tree_of pattern) line from (last_of last) small inside)
+  turns_fit =
+      subst (TurnFits (length line) from) (sym turns.same)
+      (kept_fits (length line) from (turn_at (tree_of pattern) line from (option_of last)) (turn_fits (tree_of pattern) line from (option_of last) small inside))
 
   -- the scan goes on further in the line
-  turns_further : t.goes ≡ true → (from < t.next) × (t.next ≤ length line)
-  turns_further = turns_fit.further
+  turns_further : (next : ℕ) → t.goes ≡ Some next → (from < next) × (next ≤ length line)
+  turns_further next is =
+      let there = turns_fit.further (ap is_some is) in
+      let same : unwrap_or t.goes 0 ≡ next = ap (λ (o : Option ℕ). unwrap_or o 0) is in
+      (omega (arith, there), omega (arith, there))
 
-  pub turns_ahead : {goes : Bool} → goes ≡ true → ahead line t.goes t.next < ahead line goes from
-  turns_ahead {goes} go = ahead_falls line goes from t.goes t.next go turns_further
+  pub turns_ahead : {goes : Option ℕ} → goes ≡ Some from → ahead line t.goes < ahead line goes
+  turns_ahead is = subst (λ (o : Option ℕ). ahead line t.goes < ahead line o) (sym is) (look t.goes refl)
+    where
+      look : (o : Option ℕ) → t.goes ≡ o → ahead line o < suc (length line - from)
+      look (Some next) is = let further = turns_further next is in omega arith
+      look None is = omega arith
 
-module _ (pattern template line : List ℕ) (small : length line ≤ line_bytes) where
-  module _ (from last : ℕ) (t : Turn) (turns : Turns pattern line from last t) (inside : from ≤ length line) where
-    turns_before : scan_from (tree_of pattern) template line (pieces_of template) from (last_of last)
-        ≡ precede (turn_bytes template line (pieces_of template) from (as_turn t)) (turn_count (as_turn t)) t.steps (left_of pattern template line t.goes t.next t.last)
-    turns_before =
-        scan_turn (tree_of pattern) template line (pieces_of template) small from (last_of last) inside
-        ∙ sym
-        (λ i.
-        precede (turn_bytes template line (pieces_of template) from (turns.same i)) (turn_count (turns.same i)) (turns.counted i)
-        (turn_rest (scan_from (tree_of pattern) template line (pieces_of template)) (turns.same i)))
+  -- a turn is put before what is left after it
+  turns_before : (template : List ℕ)
+      → left_of pattern template line (Some from) last
+      ≡ precede (turn_bytes template line (pieces_of template) from (as_turn t)) (turn_count (as_turn t)) t.steps (left_of pattern template line t.goes t.last)
+  turns_before template =
+      let turn = turn_at (tree_of pattern) line from (option_of last) in
+      let scan = scan_from (tree_of pattern) template line (pieces_of template) in
+      scan_turn (tree_of pattern) template line (pieces_of template) small from (option_of last) inside
+      ∙ (λ i.
+      precede (sym (kept_bytes template line (pieces_of template) from turn) i) (turn_count turn) (search_steps (tree_of pattern) (drop from line)) (sym (kept_rest scan turn) i))
+      ∙ sym
+      (λ i.
+      precede (turn_bytes template line (pieces_of template) from (turns.same i)) (turn_count (turns.same i)) (turns.counted i) (turn_rest scan (turns.same i)))
 
-  -- the whole scan
-  whole_left : left_of pattern template line true 0 absent ≡ whole_of pattern template line
-  whole_left = scan_whole (tree_of pattern) template line (pieces_of template) small
+-- a flag counts one
+one : (b : Bool) → bool_byte b ≡ cond b 1 0
+one true = refl
+one false = refl
 
--- ---- measuring
+-- ---- the whole scan, into whatever output
 
-module _ {pattern template line : List ℕ} (small : length line ≤ line_bytes) where
-  pub sum_start : Summing pattern template line 0 absent true 0 0 0
-  sum_start =
-      let all = whole_left pattern template line small in
-      record {
-        inside = λ go. omega arith;
-        written = omega (arith, ap (λ (s : Scanned). length s.output) all);
-        replaced = omega (arith, ap (λ (s : Scanned). s.replaced) all);
-        stepped = omega (arith, ap (λ (s : Scanned). s.steps) all);
-      }
+module _ {S : Type 0} (room : S → List ℕ → Type 0) (appends : S → List ℕ → S → Type 0) (pattern template line : List ℕ) (entry : S) where
+  abbrev whole : Scanned
+  whole = whole_of pattern template line
 
-  pub sum_more : {from last total replacements steps : ℕ} {goes : Bool} → goes ≡ true → Summing pattern template line from last goes total replacements steps → {t : Turn}
-      → Turns pattern line from last t → {added : ℕ} → added ≡ length (turn_bytes template line (pieces_of template) from (as_turn t)) → {ones : ℕ}
-      → ones ≡ cond t.put 1 0 → Summing pattern template line t.next t.last t.goes (total + added) (replacements + ones) (steps + t.steps)
-  sum_more {from} {last} {total} {replacements} {steps} {goes} go sum {t} turns {added} adds {ones} counts =
-      let inside = sum.inside go in
-      let here : left_of pattern template line goes from last
-      ≡ precede (turn_bytes template line (pieces_of template) from (as_turn t)) (turn_count (as_turn t)) t.steps (left_of pattern template line t.goes t.next t.last) =
-      ap (λ (b : Bool). left_of pattern template line b from last) go ∙ turns_before pattern template line small from last t turns inside in
-      let left = left_of pattern template line t.goes t.next t.last in
-      let bytes = turn_bytes template line (pieces_of template) from (as_turn t) in
-      record {
-        inside = λ on. (turns_further small turns inside on).1;
-        written = omega (arith, sum.written, ap (λ (s : Scanned). length s.output) here, length-append bytes left.output);
-        replaced = omega (arith, sum.replaced, ap (λ (s : Scanned). s.replaced) here);
-        stepped = omega (arith, sum.stepped, ap (λ (s : Scanned). s.steps) here);
-      }
+  -- what is appended and counted, and what is left, make up the whole; what is left has room
+  pub record Scanning (goes last : Option ℕ) (output : S) (replacements steps : ℕ) : Type 0 where
+    pub inside : (from : ℕ) → goes ≡ Some from → from ≤ length line
+    pub done : List ℕ
+    pub same : done ++ (left_of pattern template line goes last).output ≡ whole.output
+    pub appended : appends entry done output
+    pub has_room : room output (left_of pattern template line goes last).output
+    pub replaced : replacements + (left_of pattern template line goes last).replaced ≡ whole.replaced
+    pub stepped : steps + (left_of pattern template line goes last).steps ≡ whole.steps
 
-  -- where the scan has ended, the whole is measured
-  pub sum_end : {from last total replacements steps : ℕ} {goes : Bool} → goes ≡ false → Summing pattern template line from last goes total replacements steps
-      → Measures pattern template line (record { length = total; replacements = replacements; steps = steps })
-  sum_end {from} {last} {total} {replacements} {steps} {goes} stop sum =
-      let none_left : left_of pattern template line goes from last ≡ ended = ap (λ (b : Bool). left_of pattern template line b from last) stop in
-      record {
-        long = omega (arith, sum.written, ap (λ (s : Scanned). length s.output) none_left);
-        replaced = omega (arith, sum.replaced, ap (λ (s : Scanned). s.replaced) none_left);
-        stepped = omega (arith, sum.stepped, ap (λ (s : Scanned). s.steps) none_left);
-      }
+  module _ (small : length line ≤ line_bytes) where
+    whole_left : left_of pattern template line (Some 0) None ≡ whole
+    whole_left = scan_whole (tree_of pattern) template line (pieces_of template) small
 
-  -- what is measured never passes the limits
-  pub sum_fits : {from last total replacements steps : ℕ} {goes : Bool} → Right template → Lawful (tree_of pattern)
-      → Summing pattern template line from last goes total replacements steps → (total ≤ most_output) × (replacements ≤ line_bytes + 1) × (steps ≤ most_sum)
-  sum_fits right lawful sum =
-      let short = replace_all_short (tree_of pattern) template line (pieces_of template) right small in
-      let most = replace_all_most (tree_of pattern) template line (pieces_of template) lawful small in
-      (omega (arith, sum.written, short.0), omega (arith, sum.replaced, short.1), omega (arith, sum.stepped, most))
-
-  -- ---- writing
-
-  pub fill_start : {entry : List ℕ} → Filling pattern template line entry 0 absent true entry 0
-  fill_start {entry} =
-      record {
-        inside = λ go. omega arith;
-        done = [];
-        same = ap (λ (s : Scanned). s.output) (whole_left pattern template line small);
-        written = nothing_written entry 0;
-      }
-
-  module _ {entry : List ℕ} {from last : ℕ} {goes : Bool} (go : goes ≡ true) {buffer : List ℕ} {at : ℕ} (fill : Filling pattern template line entry from last goes buffer at)
-      {t : Turn} (turns : Turns pattern line from last t) where
-    next_same : fill.done ++ turn_bytes template line (pieces_of template) from (as_turn t) ++ (left_of pattern template line t.goes t.next t.last).output
-        ≡ (whole_of pattern template line).output
-    next_same =
-        append_assoc fill.done (turn_bytes template line (pieces_of template) from (as_turn t)) (left_of pattern template line t.goes t.next t.last).output
-        ∙ ap (λ (s : Scanned). fill.done ++ s.output)
-        (sym (ap (λ (b : Bool). left_of pattern template line b from last) go ∙ turns_before pattern template line small from last t turns (fill.inside go)))
-        ∙ fill.same
-
-    -- where the whole has room, a turn has
-    pub fill_room : length (whole_of pattern template line).output ≤ length entry
-        → at + length (turn_bytes template line (pieces_of template) from (as_turn t)) ≤ length buffer
-    fill_room room =
-        let bytes = turn_bytes template line (pieces_of template) from (as_turn t) in
-        let left = (left_of pattern template line t.goes t.next t.last).output in
-        omega
-        (arith, ap length next_same, length-append (fill.done ++ bytes) left, length-append fill.done bytes, fill.written.ends, fill.written.long)
-
-    pub fill_more : {after : List ℕ} {end : ℕ} → Appended buffer after at (turn_bytes template line (pieces_of template) from (as_turn t)) end
-        → Filling pattern template line entry t.next t.last t.goes after end
-    fill_more {after} {end} wrote =
-        let bytes = turn_bytes template line (pieces_of template) from (as_turn t) in
+    pub scan_start : appends entry [] entry → room entry whole.output → Scanning (Some 0) None entry 0 0
+    scan_start none fits =
         record {
-          inside = λ on. (turns_further small turns (fill.inside go) on).1;
-          done = fill.done ++ bytes;
-          same = next_same;
-          written = written_on entry buffer after fill.done bytes 0 at end fill.written wrote;
+          inside = λ from is. omega (arith, ap (λ (o : Option ℕ). unwrap_or o 0) is);
+          done = [];
+          same = ap (λ (s : Scanned). s.output) whole_left;
+          appended = none;
+          has_room = subst (λ (s : Scanned). room entry s.output) (sym whole_left) fits;
+          replaced = omega (arith, ap (λ (s : Scanned). s.replaced) whole_left);
+          stepped = omega (arith, ap (λ (s : Scanned). s.steps) whole_left);
         }
 
-  -- where the scan has ended, the whole is written
-  pub fill_end : {entry : List ℕ} {from last : ℕ} {goes : Bool} → goes ≡ false → {buffer : List ℕ} {at : ℕ} → Filling pattern template line entry from last goes buffer at
-      → buffer ≡ (whole_of pattern template line).output ++ drop (length (whole_of pattern template line).output) entry
-  fill_end {entry} {from} {last} {goes} stop {buffer} {at} fill =
-      let all : fill.done ≡ (whole_of pattern template line).output =
-      sym (append-nil fill.done) ∙ ap (λ (b : Bool). fill.done ++ (left_of pattern template line b from last).output) (sym stop) ∙ fill.same in
-      let ends : at ≡ length (whole_of pattern template line).output = omega (arith, fill.written.ends, ap length all) in
-      sym (take-append-drop at buffer)
-      ∙ ap (λ (l : List ℕ). l ++ drop at buffer) (fill.written.front ∙ all)
-      ∙ ap (λ (l : List ℕ). (whole_of pattern template line).output ++ l) (fill.written.behind ∙ ap (λ (n : ℕ). drop n entry) ends)
+    module _ {from : ℕ} {last : Option ℕ} {output : S} {replacements steps : ℕ} (kept : Scanning (Some from) last output replacements steps) {t : Turn}
+        (turns : Turns pattern line from last t) where
+      abbrev bytes : List ℕ
+      bytes = turn_bytes template line (pieces_of template) from (as_turn t)
+
+      abbrev left : Scanned
+      left = left_of pattern template line t.goes t.last
+
+      here : left_of pattern template line (Some from) last ≡ precede bytes (turn_count (as_turn t)) t.steps left
+      here = turns_before small turns (kept.inside from refl) template
+
+      room_here : room output (bytes ++ left.output)
+      room_here = subst (λ (s : Scanned). room output s.output) here kept.has_room
+
+      -- where the whole has room, a turn has
+      pub scan_room : ((s : S) (xs ys : List ℕ) → room s (xs ++ ys) → room s xs) → room output bytes
+      scan_room room_first = room_first output bytes left.output room_here
+
+      pub scan_more : ((s t u : S) (xs ys : List ℕ) → appends s xs t → appends t ys u → appends s (xs ++ ys) u)
+          → ((s t : S) (xs ys : List ℕ) → room s (xs ++ ys) → appends s xs t → room t ys) → {after : S} → appends output bytes after → {ones : ℕ}
+          → ones ≡ bool_byte (is_some t.put) → {more : ℕ} → more ≡ t.steps → Scanning t.goes t.last after (replacements + ones) (steps + more)
+      scan_more both room_second {after} wrote {ones} counts {more} adds =
+          record {
+            inside = λ next is. (turns_further small turns (kept.inside from refl) next is).1;
+            done = kept.done ++ bytes;
+            same = append_assoc kept.done bytes left.output ∙ ap (λ (s : Scanned). kept.done ++ s.output) (sym here) ∙ kept.same;
+            appended = both entry output after kept.done bytes kept.appended wrote;
+            has_room = room_second output after bytes left.output room_here wrote;
+            replaced = omega (arith, kept.replaced, ap (λ (s : Scanned). s.replaced) here, one (is_some t.put));
+            stepped = omega (arith, kept.stepped, ap (λ (s : Scanned). s.steps) here);
+          }
+
+      -- and what is counted after it does not pass the limits
+      pub scan_fits : Right template → Lawful (tree_of pattern) → {ones : ℕ} → ones ≡ bool_byte (is_some t.put) → {more : ℕ} → more ≡ t.steps
+          → (replacements + ones ≤ line_bytes + 1) × (steps + more ≤ most_sum)
+      scan_fits right lawful {ones} counts {more} adds =
+          let short = replace_all_short (tree_of pattern) template line (pieces_of template) right small in
+          let most = replace_all_most (tree_of pattern) template line (pieces_of template) lawful small in (
+            omega (arith, kept.replaced, ap (λ (s : Scanned). s.replaced) here, one (is_some t.put), short.1),
+            omega (arith, kept.stepped, ap (λ (s : Scanned). s.steps) here, most),
+          )
+
+  -- where the scan has ended, the whole is appended
+  pub scan_end : {goes last : Option ℕ} {output : S} {replacements steps : ℕ} → goes ≡ None → Scanning goes last output replacements steps
+      → appends entry whole.output output × (replacements ≡ whole.replaced) × (steps ≡ whole.steps)
+  scan_end {goes} {last} {output} {replacements} {steps} stop kept =
+      let none_left : left_of pattern template line goes last ≡ ended = ap (λ (o : Option ℕ). left_of pattern template line o last) stop in
+      let all : kept.done ≡ whole.output =
+      sym (append-nil kept.done) ∙ ap (λ (s : Scanned). kept.done ++ s.output) (sym none_left) ∙ kept.same in (
+        subst (λ (l : List ℕ). appends entry l output) all kept.appended,
+        omega (arith, kept.replaced, ap (λ (s : Scanned). s.replaced) none_left),
+        omega (arith, kept.stepped, ap (λ (s : Scanned). s.steps) none_left),
+      )

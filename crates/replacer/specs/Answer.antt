@@ -1,15 +1,20 @@
 -- The answer of replace-all, read as `paper`'s.
-use Rattle.std.specs.Prelude.{ℕ}
-use Rattle.paper.specs.Refusal.{Checked, refused, accepted}
+use Rattle.std.specs.Prelude.{ℕ, Result, Ok, Err}
+use Rattle.paper.specs.Refusal.{Checked}
 use Rattle.paper.specs.Replace as paper
+use Rattle.pattern.specs.declared.Refused.{Refused}
+use Rattle.pattern.specs.Refusals.{checked_of}
 use Rattle.replacer.specs.declared.Replaced.{Replaced}
 
--- the number and the place of a refusal, or the output's length, the replacements and the sum of the steps
-abbrev pub answer_of : Replaced → Checked paper.Replaced
-answer_of (Replaced.Refused number place) = refused number place
-answer_of (Replaced.Done length replacements steps) = accepted (record { output_length = length; replaced = replacements; steps = steps })
+-- the output's length, the replacements and the sum of the steps
+abbrev pub replaced_of : Replaced → paper.Replaced
+replaced_of r = record { output_length = r.length; replaced = r.replacements; steps = r.steps }
+
+-- a refusal's number and place, or those three
+abbrev pub answer_of : Result Replaced Refused → Checked paper.Replaced
+answer_of r = checked_of replaced_of r
 
 -- the steps that an answer tells
-abbrev pub steps_told : Replaced → ℕ
-steps_told (Replaced.Refused number place) = 0
-steps_told (Replaced.Done length replacements steps) = steps
+abbrev pub steps_told : Result Replaced Refused → ℕ
+steps_told (Ok r) = r.steps
+steps_told (Err r) = 0

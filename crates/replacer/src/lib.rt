@@ -3,137 +3,84 @@
 
 mod scans;
 
-ghost use Rattle.std.specs.Prelude.{◌≡◌, Bool};
-ghost use Rattle.paper.specs.Pattern.{groups};
 ghost use Rattle.machine.specs.Scratch.{Roomy};
-ghost use Rattle.replacer.specs.Given.{tree_of, Replaceable};
 ghost use Rattle.replacer.specs.Promise.{Replaces};
 
-use machine::{Built, LargeScratch, Machine, Scratch, SmallScratch};
-use pattern::{Line, Refusal};
-use template::References;
+use machine::{LargeScratch, Machine, Scratch, SmallScratch};
+use pattern::{Line, Refusal, Refused};
+use scans::Scan;
+use turns::output::{Buffer, Length};
 
-// What replace-all answers: a refusal's number and place, or the output's length, the replacements and the sum of all searches' steps.
-#[derive(Clone, Copy)]
-pub enum Replaced {
-    Refused {
-        number: usize,
-        place: usize,
-    },
-    Done {
-        length: usize,
-        replacements: usize,
-        steps: u64,
-    },
+// What replace-all answers: the output's length, the replacements and the sum of all searches' steps.
+#[derive(Clone, Copy, Debug, PartialEq, Eq)]
+pub struct Replaced {
+    pub length: usize,
+    pub replacements: usize,
+    pub steps: u64,
 }
 
-// Refusal 13, else the output in the buffer, in lent scratch: the scan is measured before the first byte is written.
-fn replace_in(
-    machine: Machine,
-    template: &[u8],
-    line: &[u8],
-    scratch: &mut Scratch,
-    buffer: &mut [u8],
-) -> Replaced
-    requires given { Replaceable machine.pattern.now template.now line.now }
-    requires built { machine.searches ≡ Bool.true }
-    requires roomy { Roomy machine.places machine.depth scratch.old }
-    ensures { Replaces machine.entry.pattern.now template.now line.now buffer.old result buffer.new }
-{
-    let measured = scans::measure(machine, template, line, scratch);
-    if buffer.len() < measured.length {
-        return Replaced::Refused {
-            number: Refusal::OutputTooLong as usize,
-            place: 0,
+impl Scan<'_, '_, '_> {
+    // Refusal 13, else the output in the buffer, in lent scratch: the scan is measured before the first byte is written.
+    fn replace_in(self, scratch: &mut Scratch, buffer: &mut [u8]) -> Result<Replaced, Refused>
+        requires { Roomy self.machine.places self.machine.depth scratch.old }
+        ensures { Replaces self.entry.machine.pattern.now self.entry.template.now self.entry.line.now buffer.old result buffer.new }
+    {
+        let mut length = Length { bytes: 0 };
+        let scanned = self.append_to(scratch, &mut length);
+        if buffer.len() < length.bytes {
+            return Err(Refusal::OutputTooLong.at(0));
+        }
+        let mut written = Buffer {
+            bytes: buffer,
+            end: 0,
         };
+        self.append_to(scratch, &mut written);
+        Ok(Replaced {
+            length: length.bytes,
+            replacements: scanned.replacements,
+            steps: scanned.steps,
+        })
     }
-    scans::write(machine, template, line, scratch, buffer);
-    Replaced::Done {
-        length: measured.length,
-        replacements: measured.replacements,
-        steps: measured.steps,
-    }
-}
 
-// The same in scratch as large as the machine asks for.
-fn replace_within(machine: Machine, template: &[u8], line: &[u8], buffer: &mut [u8]) -> Replaced
-    requires given { Replaceable machine.pattern.now template.now line.now }
-    requires built { machine.searches ≡ Bool.true }
-    ensures { Replaces machine.entry.pattern.now template.now line.now buffer.old result buffer.new }
-{
-    if machine::is_small(machine.places, machine.depth) {
-        replace_in(
-            machine,
-            template,
-            line,
-            &mut SmallScratch::new().lend(),
-            buffer,
-        )
-    } else {
-        replace_in(
-            machine,
-            template,
-            line,
-            &mut LargeScratch::new().lend(),
-            buffer,
-        )
-    }
-}
-
-// Refusals 9, 10 and 11, then the rest.
-fn replace_built(
-    machine: Machine,
-    count: usize,
-    template: &[u8],
-    line: &[u8],
-    buffer: &mut [u8],
-) -> Replaced
-    requires built { machine.searches ≡ Bool.true }
-    requires counted { count ≡ groups (tree_of machine.pattern.now) }
-    ensures { Replaces machine.entry.pattern.now template.now line.now buffer.old result buffer.new }
-{
-    match template::references_within(template, count) {
-        References::Wrong(place) => Replaced::Refused {
-            number: Refusal::TemplateWrong as usize,
-            place,
-        },
-        References::TooHigh(place) => Replaced::Refused {
-            number: Refusal::ReferenceTooHigh as usize,
-            place,
-        },
-        References::Within => {
-            if Line::BYTES < line.len() {
-                return Replaced::Refused {
-                    number: Refusal::LineTooLong as usize,
-                    place: 0,
-                };
-            }
-            replace_within(machine, template, line, buffer)
+    // The same in scratch as large as the machine asks for.
+    fn replace(self, buffer: &mut [u8]) -> Result<Replaced, Refused>
+        ensures { Replaces self.entry.machine.pattern.now self.entry.template.now self.entry.line.now buffer.old result buffer.new }
+    {
+        if machine::is_small(self.machine.places, self.machine.depth) {
+            self.replace_in(&mut SmallScratch::new().lend(), buffer)
+        } else {
+            self.replace_in(&mut LargeScratch::new().lend(), buffer)
         }
     }
 }
 
 // Replace-all: each match of the pattern in the line replaced by what the template puts in for it, into the buffer. Refusals 1 to 8, 9, 10, 11
 // and 13 leave the buffer as it was.
-pub fn replace_all(pattern: &[u8], template: &[u8], line: &[u8], buffer: &mut [u8]) -> Replaced
+pub fn replace_all(
+    pattern: &[u8],
+    template: &[u8],
+    line: &[u8],
+    buffer: &mut [u8],
+) -> Result<Replaced, Refused>
     ensures { Replaces pattern.now template.now line.now buffer.old result buffer.new }
 {
     let mut code = [0u16; Machine::CODE];
-    match machine::build(pattern, true, &mut code) {
-        Built::Refused { number, place } => Replaced::Refused { number, place },
-        Built::Machine {
-            places,
-            depth,
-            groups,
-        } => {
-            let machine = Machine {
-                pattern,
-                code: &code,
-                searches: true,
-                places,
-                depth,
-            };
-            replace_built(machine, groups, template, line, buffer)
-        }
+    let numbers = machine::build(pattern, true, &mut code)?;
+    template::references_within(template, numbers.groups)?;
+    if Line::BYTES < line.len() {
+        return Err(Refusal::LineTooLong.at(0));
     }
+    let machine = Machine {
+        pattern,
+        code: &code,
+        searches: true,
+        places: numbers.places,
+        depth: numbers.depth,
+    };
+    let scan = Scan {
+        machine,
+        template,
+        line,
+    };
+    scan.replace(buffer)
 }

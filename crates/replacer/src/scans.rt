@@ -1,100 +1,73 @@
-// The scan over the line, search by search: once to measure what it writes, and once to write it. Both make the same turns.
-ghost use Rattle.std.specs.Prelude.{◌≡◌, Bool, cond, ◌++◌, ◌≤◌, length, drop};
-ghost use Rattle.machine.specs.Scratch.{Runnable, Lasts};
-ghost use Rattle.turns.specs.Accepted.{Right};
-ghost use Rattle.replacer.specs.Given.{whole_of};
-ghost use Rattle.replacer.specs.Scans.{Turns, Measures};
+// The scan over the line, search by search.
+ghost use Rattle.std.specs.Prelude.{◌≡◌, ◌≤◌, Bool, length};
+ghost use Rattle.machine.specs.Scratch.{Roomy, Runnable, Lasts};
+ghost use Rattle.std.proofs.Props.{props};
+ghost use Rattle.paper.specs.Limits.{line_bytes};
+ghost use Rattle.paper.specs.Refusal.{accepted};
+ghost use Rattle.paper.specs.Pattern.{groups};
+ghost use Rattle.paper.specs.Template.{within};
+ghost use Rattle.turns.specs.Accepted.{pieces_of, Right};
+ghost use Rattle.replacer.specs.Given.{tree_of, whole_of};
+ghost use Rattle.replacer.specs.Scans.{Turns, Counts};
 
 use machine::{Machine, Scratch};
-use pattern::Spans;
 use turns::Turn;
+use turns::output::Output;
 
-// The output's length, the replacements and the sum of all searches' steps.
+// What is scanned, by what, and what is put in: a machine built for searching, a template whose references are within its groups, and a line
+// within the limit.
 #[derive(Clone, Copy)]
-pub struct Measured {
-    pub length: usize,
+pub struct Scan<'m, 't, 'l> {
+    pub machine: Machine<'m>,
+    pub template: &'t [u8],
+    pub line: &'l [u8],
+    pub ghost built: { machine.searches ≡ Bool.true },
+    pub ghost right: { Right template.now } by { Prim.hlevel props },
+    pub ghost low: { within (pieces_of template.now) (groups (tree_of machine.pattern.now)) ≡ accepted tt } by { Prim.hlevel props },
+    pub ghost short: { length line.now ≤ line_bytes },
+}
+
+// What a scan gives beside its output: the replacements and the sum of all searches' steps.
+#[derive(Clone, Copy)]
+pub struct Scanned {
     pub replacements: usize,
     pub steps: u64,
 }
 
-// The turn of the search of the line from a position on, by a machine built for searching.
-fn search_turn(
-    machine: Machine,
-    line: &[u8],
-    scratch: &mut Scratch,
-    from: usize,
-    last: usize,
-) -> Turn
-    requires built { machine.searches ≡ Bool.true }
-    requires runnable { Runnable machine.places machine.depth line.now from scratch.old }
-    ensures turns { Turns machine.entry.pattern.now line.now from last result }
-    ensures lasts { Lasts scratch.old scratch.new }
-{
-    let ran = machine.search_rows(line, from, scratch);
-    let rows = ran.rows.unwrap_or(Spans::absent_table());
-    turns::turn_of(line.len(), last, ran.rows.is_some(), rows, ran.steps)
-}
-
-// A replacement counts one.
-fn counted(put: bool) -> usize
-    ensures { result ≡ cond put 1 0 }
-{
-    if put { 1 } else { 0 }
-}
-
-// What the scan of the whole line writes, without writing it.
-pub fn measure(machine: Machine, template: &[u8], line: &[u8], scratch: &mut Scratch) -> Measured
-    requires right { Right template.now }
-    requires built { machine.searches ≡ Bool.true }
-    requires runnable { Runnable machine.places machine.depth line.now 0 scratch.old }
-    ensures measures { Measures machine.entry.pattern.now template.now line.now result }
-    ensures lasts { Lasts scratch.old scratch.new }
-{
-    let mut from = 0;
-    let mut last = turns::NONE;
-    let mut goes = true;
-    let mut total = 0;
-    let mut replacements = 0;
-    let mut steps: u64 = 0;
-    while goes {
-        let turn = search_turn(machine, line, scratch, from, last);
-        total += turns::turn_length(template, line, from, turn);
-        replacements += counted(turn.put);
-        steps += turn.steps as u64;
-        from = turn.next;
-        last = turn.last;
-        goes = turn.goes;
+impl Scan<'_, '_, '_> {
+    // The turn of the search from a position on.
+    fn turn(self, scratch: &mut Scratch, from: usize, last: Option<usize>) -> Turn
+        requires { Runnable self.machine.places self.machine.depth self.line.now from scratch.old }
+        ensures turns { Turns self.entry.machine.pattern.now self.entry.line.now from last result }
+        ensures lasts { Lasts scratch.old scratch.new }
+    {
+        let ran = self.machine.search_rows(self.line, from, scratch);
+        turns::turn_of(self.line.len(), last, ran.rows, ran.steps)
     }
-    Measured {
-        length: total,
-        replacements,
-        steps,
-    }
-}
 
-// Writes what the scan of the whole line writes to the front of the buffer.
-pub fn write(
-    machine: Machine,
-    template: &[u8],
-    line: &[u8],
-    scratch: &mut Scratch,
-    buffer: &mut [u8],
-)
-    requires right { Right template.now }
-    requires built { machine.searches ≡ Bool.true }
-    requires runnable { Runnable machine.places machine.depth line.now 0 scratch.old }
-    requires room { length (whole_of machine.pattern.now template.now line.now).output ≤ length buffer.old }
-    ensures { buffer.new ≡ (whole_of machine.entry.pattern.now template.now line.now).output ++ drop (length (whole_of machine.entry.pattern.now template.now line.now).output) buffer.old }
-{
-    let mut from = 0;
-    let mut last = turns::NONE;
-    let mut goes = true;
-    let mut at = 0;
-    while goes {
-        let turn = search_turn(machine, line, scratch, from, last);
-        at = turns::write_turn(template, line, from, turn, buffer, at);
-        from = turn.next;
-        last = turn.last;
-        goes = turn.goes;
+    // Appends what the scan of the whole line writes to the output.
+    pub fn append_to<O: Output>(self, scratch: &mut Scratch, output: &mut O) -> Scanned
+        requires roomy { Roomy self.machine.places self.machine.depth scratch.old }
+        requires room { O.has_room output.old (whole_of self.machine.pattern.now self.template.now self.line.now).output }
+        ensures written { O.appends output.old (whole_of self.entry.machine.pattern.now self.entry.template.now self.entry.line.now).output output.new }
+        ensures counts { Counts self.entry.machine.pattern.now self.entry.template.now self.entry.line.now result }
+        ensures lasts { Lasts scratch.old scratch.new }
+    {
+        let mut goes = Some(0);
+        let mut last = None;
+        let mut replacements = 0;
+        let mut steps: u64 = 0;
+        while let Some(from) = goes {
+            let turn = self.turn(scratch, from, last);
+            turn.write(self.template, self.line, from, output);
+            replacements += usize::from(turn.put.is_some());
+            steps += u64::from(turn.steps);
+            goes = turn.goes;
+            last = turn.last;
+        }
+        Scanned {
+            replacements,
+            steps,
+        }
     }
 }

@@ -3,8 +3,10 @@ ghost use Rattle.printer.specs.Gathered.{Gathered};
 
 use crate::cases::{Call, Case};
 use crate::jobs;
-use pattern::Spans;
+use matcher::Found;
+use pattern::{Refused, Spans};
 use printer::Printer;
+use template::Source;
 
 // What each byte of a buffer is before the call, so that what the call leaves of it can be told.
 const FILL: u8 = b'#';
@@ -45,7 +47,7 @@ impl Case<'_> {
 }
 
 impl Call {
-    fn make(self, pattern: &[u8], line: &[u8], table: &mut [u16]) -> matcher::Answer {
+    fn make(self, pattern: &[u8], line: &[u8], table: &mut [u16]) -> Result<Found, Refused> {
         match self {
             Call::WholeMatch => matcher::whole_match(pattern, line, table),
             Call::Search => matcher::search(pattern, line, table),
@@ -63,6 +65,7 @@ fn print_numbers(numbers: &[usize], p: &mut Printer)
     }
 }
 
+// A pattern's places, depth and groups.
 fn check(pattern: &[u8], p: &mut Printer)
     ensures { Gathered p.old p.new }
 {
@@ -71,7 +74,7 @@ fn check(pattern: &[u8], p: &mut Printer)
             p.bytes(b"ok");
             print_numbers(&[numbers.places, numbers.depth, numbers.groups], p);
         }
-        Err(refused) => p.refusal(refused.refusal.number(), refused.place),
+        Err(refused) => p.refusal(refused),
     }
 }
 
@@ -90,18 +93,13 @@ fn find_in(call: Call, pattern: &[u8], line: &[u8], table: &mut [u16], p: &mut P
     ensures { Gathered p.old p.new }
 {
     match call.make(pattern, line, table) {
-        matcher::Answer::Refused { number, place } => p.refusal(number, place),
-        matcher::Answer::Match { steps } => print_steps(b"whole ", steps, p),
-        matcher::Answer::NoMatch { steps } => print_steps(b"none ", steps, p),
+        Ok(Found { matched, steps }) => {
+            p.bytes(if matched { b"whole " } else { b"none " });
+            p.decimal(u64::from(steps));
+        }
+        Err(refused) => p.refusal(refused),
     }
     print_table(table, p);
-}
-
-fn print_steps(outcome: &[u8], steps: u32, p: &mut Printer)
-    ensures { Gathered p.old p.new }
-{
-    p.bytes(outcome);
-    p.decimal(u64::from(steps));
 }
 
 // The numbers of a table after a space, the lower byte of each first; none as a dot.
@@ -123,21 +121,17 @@ fn replace(pattern: &[u8], template: &[u8], line: &[u8], buffer: &mut [u8], p: &
 {
     buffer.fill(FILL);
     match replacer::replace_all(pattern, template, line, buffer) {
-        replacer::Replaced::Refused { number, place } => {
-            p.refusal(number, place);
-            print_change(buffer, p);
-        }
-        replacer::Replaced::Done {
-            length,
-            replacements,
-            steps,
-        } => {
-            let (output, rest) = buffer.split_at(length);
+        Ok(replaced) => {
+            let (output, rest) = buffer.split_at(replaced.length);
             p.byte_string(output);
-            print_numbers(&[length, replacements], p);
+            print_numbers(&[replaced.length, replaced.replacements], p);
             p.bytes(b" ");
-            p.decimal(steps);
+            p.decimal(replaced.steps);
             print_change(rest, p);
+        }
+        Err(refused) => {
+            p.refusal(refused);
+            print_change(buffer, p);
         }
     }
 }
@@ -155,16 +149,16 @@ fn print_change(rest: &[u8], p: &mut Printer)
 fn piece(template: &[u8], line: &[u8], table: &[u16], number: usize, p: &mut Printer)
     ensures { Gathered p.old p.new }
 {
-    let (source, start, end) = match template::piece(template, line, table, number) {
-        template::Answer::Refused { number, place } => {
-            p.refusal(number, place);
-            return;
+    match template::piece(template, line, table, number) {
+        Ok(span) => {
+            p.bytes(match span.source {
+                Source::Template => b"template",
+                Source::Line => b"line",
+            });
+            print_numbers(&[span.start, span.end], p);
+            p.bytes(b" ");
+            p.byte_string(template::part(template, line, table, number));
         }
-        template::Answer::Template { start, end } => (b"template".as_slice(), start, end),
-        template::Answer::Line { start, end } => (b"line".as_slice(), start, end),
-    };
-    p.bytes(source);
-    print_numbers(&[start, end], p);
-    p.bytes(b" ");
-    p.byte_string(template::part(template, line, table, number));
+        Err(refused) => p.refusal(refused),
+    }
 }

@@ -1,8 +1,8 @@
 // What pick prints for a job that is all there, as the digits of its bytes.
-ghost use Rattle.std.specs.Prelude.{◌≤◌, length};
 ghost use Rattle.printer.specs.Gathered.{Gathered};
 
 use job::{Body, Broken, Job};
+use matcher::Found;
 use pattern::Spans;
 use printer::Printer;
 
@@ -16,7 +16,7 @@ pub fn pick(job: &[u8], p: &mut Printer)
     p.set_coded(false);
 }
 
-// The whole job.
+// The whole job, until a record is not as described.
 fn print_job(bytes: &[u8], p: &mut Printer) -> Result<(), Broken>
     ensures { Gathered p.old p.new }
 {
@@ -26,38 +26,30 @@ fn print_job(bytes: &[u8], p: &mut Printer) -> Result<(), Broken>
     let pattern = &bytes[start..end];
     match pattern::check(pattern) {
         Ok(numbers) => {
-            job::print_numbers(p, numbers.places, numbers.depth, numbers.groups);
-            print_lines(bytes, end, pattern, numbers.groups, p)
+            job::print_numbers(p, numbers);
+            print_lines(&bytes[end..], pattern, numbers.groups, p)
         }
         Err(refused) => {
-            job::print_refused(p, refused.refusal.number(), refused.place);
+            job::print_refused(p, refused);
             Ok(())
         }
     }
 }
 
-// The lines of a job from an offset on.
-fn print_lines(
-    bytes: &[u8],
-    from: usize,
-    pattern: &[u8],
-    groups: usize,
-    p: &mut Printer,
-) -> Result<(), Broken>
-    requires { from ≤ length bytes.now }
+// The lines of a job, which stand behind its pattern.
+fn print_lines(lines: &[u8], pattern: &[u8], groups: usize, p: &mut Printer) -> Result<(), Broken>
     ensures { Gathered p.old p.new }
 {
-    let mut next = from;
+    let mut next = 0;
     let mut number = 0u64;
-    while let Some(Body { start, end }) = job::next_record(bytes, next, bytes.len(), Job::LINE)? {
+    while let Some(Body { start, end }) = job::next_record(lines, next, lines.len(), Job::LINE)? {
         number += 1;
         let mut rows = Spans::absent_table();
-        match matcher::whole_match(pattern, &bytes[start..end], &mut rows) {
-            matcher::Answer::Refused { number, place } => job::print_refused(p, number, place),
-            matcher::Answer::Match { steps } => {
-                job::print_line(p, number, Some(rows), steps, groups);
+        match matcher::whole_match(pattern, &lines[start..end], &mut rows) {
+            Ok(Found { matched, steps }) => {
+                job::print_line(p, number, matched.then_some(rows), steps, groups);
             }
-            matcher::Answer::NoMatch { steps } => job::print_line(p, number, None, steps, groups),
+            Err(refused) => job::print_refused(p, refused),
         }
         next = end;
     }

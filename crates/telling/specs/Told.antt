@@ -1,12 +1,13 @@
 -- How an answer is told to C: a status, and numbers at the front of a lent `out`.
-use Rattle.std.specs.Prelude.{ℕ, ◌≤◌, ◌≡◌, Bool, true, false, List, [], ◌∷◌, ◌++◌, length, drop}
+use Rattle.std.specs.Prelude.{ℕ, ◌≤◌, ◌≡◌, Bool, true, false, List, [], ◌∷◌, ◌++◌, length, drop, Result}
 use Rattle.paper.specs.Refusal.{Checked, refused, accepted, ◌>>=◌}
 use Rattle.paper.specs.Check.{Numbers}
 use Rattle.paper.specs.Match.{Told}
 use Rattle.paper.specs.Replace.{Replaced}
 use Rattle.paper.specs.PieceCalls.{Source, from_template, from_line, Span}
-use Rattle.machine.specs.declared.Built.{Built}
-use Rattle.machine.specs.declared.Built.TheVariants.{Refused, Machine}
+use Rattle.pattern.specs.declared.Numbers as declared
+use Rattle.pattern.specs.declared.Refused.{Refused}
+use Rattle.pattern.specs.Answer.{answer_of}
 
 -- the status of a call that was not refused
 abbrev pub answered : ℕ
@@ -63,6 +64,5 @@ abbrev pub replaced_numbers : Checked Replaced → Checked (List ℕ)
 replaced_numbers answer = answer >>= λ s. accepted (s.output_length ∷ s.replaced ∷ s.steps ∷ [])
 
 -- a built machine's places and depth, and the pattern's groups
-abbrev pub built_numbers : Built → Checked (List ℕ)
-built_numbers (Refused number place) = refused number place
-built_numbers (Machine places deep many) = accepted (places ∷ deep ∷ many ∷ [])
+abbrev pub built_numbers : Result declared.Numbers Refused → Checked (List ℕ)
+built_numbers answer = check_numbers (answer_of answer)

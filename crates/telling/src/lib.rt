@@ -10,7 +10,10 @@ ghost use Rattle.template.specs.Answer as piece;
 ghost use Rattle.replacer.specs.Answer as replaced;
 ghost use Rattle.telling.specs.Told.{Numbered, Tells, check_numbers, found_numbers, span_numbers, replaced_numbers, built_numbers};
 
+use matcher::Found;
 use pattern::{Numbers, Refused};
+use replacer::Replaced;
+use template::Span;
 
 // The status of an answer, which is no refusal's number.
 #[derive(Clone, Copy)]
@@ -62,55 +65,42 @@ pub fn tell_checked(answer: Result<Numbers, Refused>, out: &mut [u64]) -> u32
 }
 
 // What a whole match or a search answered.
-pub fn tell_found(answer: matcher::Answer, out: &mut [u64]) -> u32
+pub fn tell_found(answer: Result<Found, Refused>, out: &mut [u64]) -> u32
     requires { Numbered (found.answer_of answer) × (2 ≤ length out.old) }
     ensures { Tells (found_numbers (found.answer_of answer)) out.old result out.new }
 {
     match answer {
-        matcher::Answer::Refused { number, place } => refusal(number, place, out),
-        matcher::Answer::Match { steps } => two(1, steps as usize, out),
-        matcher::Answer::NoMatch { steps } => two(0, steps as usize, out),
+        Err(refused) => refusal(refused.refusal.number(), refused.place, out),
+        Ok(Found { matched, steps }) => two(usize::from(matched), steps as usize, out),
     }
 }
 
 // What a piece is.
-pub fn tell_piece(answer: template::Answer, out: &mut [u64]) -> u32
+pub fn tell_piece(answer: Result<Span, Refused>, out: &mut [u64]) -> u32
     requires { Numbered (piece.answer_of answer) × (3 ≤ length out.old) }
     ensures { Tells (span_numbers (piece.answer_of answer)) out.old result out.new }
 {
     match answer {
-        template::Answer::Refused { number, place } => refusal(number, place, out),
-        template::Answer::Template { start, end } => three(0, start, end, out),
-        template::Answer::Line { start, end } => three(1, start, end, out),
+        Err(refused) => refusal(refused.refusal.number(), refused.place, out),
+        Ok(span) => three(span.source as usize, span.start, span.end, out),
     }
 }
 
 // What replace-all answered.
-pub fn tell_replaced(answer: replacer::Replaced, out: &mut [u64]) -> u32
+pub fn tell_replaced(answer: Result<Replaced, Refused>, out: &mut [u64]) -> u32
     requires { Numbered (replaced.answer_of answer) × (3 ≤ length out.old) }
     ensures { Tells (replaced_numbers (replaced.answer_of answer)) out.old result out.new }
 {
     match answer {
-        replacer::Replaced::Refused { number, place } => refusal(number, place, out),
-        replacer::Replaced::Done {
-            length,
-            replacements,
-            steps,
-        } => three(length, replacements, steps as usize, out),
+        Err(refused) => refusal(refused.refusal.number(), refused.place, out),
+        Ok(done) => three(done.length, done.replacements, done.steps as usize, out),
     }
 }
 
 // What building answered.
-pub fn tell_built(answer: machine::Built, out: &mut [u64]) -> u32
+pub fn tell_built(answer: Result<Numbers, Refused>, out: &mut [u64]) -> u32
     requires { Numbered (built_numbers answer) × (3 ≤ length out.old) }
     ensures { Tells (built_numbers answer) out.old result out.new }
 {
-    match answer {
-        machine::Built::Refused { number, place } => refusal(number, place, out),
-        machine::Built::Machine {
-            places,
-            depth,
-            groups,
-        } => three(places, depth, groups, out),
-    }
+    tell_checked(answer, out)
 }

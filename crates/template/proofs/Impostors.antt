@@ -9,8 +9,7 @@ use lib.ListN.{length}
 use Rattle.paper.specs.Refusal.{Checked, refused, accepted}
 use Rattle.paper.specs.Rows.{no_rows}
 use Rattle.paper.specs.PieceCalls.{Span, piece_call, part_call}
-use Rattle.template.specs.declared.Answer.{Answer}
-use Rattle.template.specs.Answer.{answer_of, IsPart}
+use Rattle.template.specs.Answer.{IsPart}
 
 abbrev is_accepted : Checked Span → Bool
 is_accepted (refused number place) = false
@@ -20,7 +19,7 @@ is_accepted (accepted span) = true
 abbrev dash : List ℕ
 dash = 1 ∷ 0 ∷ 32 ∷ 0 ∷ 45 ∷ []
 
-pub refuses_all : (number place : ℕ) → answer_of (Answer.Refused number place) ≡ piece_call dash [] no_rows 0 → ⊥
+pub refuses_all : (number place : ℕ) → refused number place ≡ piece_call dash [] no_rows 0 → ⊥
 refuses_all number place p = true≢false (sym (ap is_accepted p))
 
 pub always_empty : (template line part : Bor (List ℕ)) → template.now ≡ dash → IsPart (piece_call dash [] no_rows 0) template line part → part.now ≡ [] → ⊥

@@ -1,5 +1,5 @@
 -- Laws on template records and pieces that belong to no one function.
-pub mod Records
+pub mod Reading
 pub mod Walks
 pub mod Pieces
 pub mod Promises

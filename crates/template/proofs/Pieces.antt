@@ -1,58 +1,28 @@
 -- What a piece is, as laws: a row's part of the line by its two numbers, the piece of a number by the record that has it, and that every
 -- part answered lies in its source.
-use Prim.Native.Nat.{ℕ, zero, suc, ◌+◌, ◌*◌, ◌≤◌, ◌<◌}
+use Prim.Native.Nat.{ℕ, zero, suc, ◌≤◌}
 use native.Mathlib.Omega.{arith}
-use mathlib.Core.Path.{◌≡◌, refl, sym, ◌∙◌, ap, ap₂, subst}
-use mathlib.Core.Bool.{Bool, true, false, cond, ◌&&◌, and-false}
+use mathlib.Core.Path.{◌≡◌, refl, sym, ◌∙◌, ap, subst}
+use mathlib.Core.Bool.{Bool, true, false, cond, ◌&&◌}
 use mathlib.Core.List.{List, [], ◌∷◌}
 use lib.Dec.{leb, eqb}
-use lib.ListN.{length, get_or, drop}
-use borrow.Author.Tests.{le-leb, lt-leb, eq-eqb, ne_eqb, leb-true}
-use Rattle.paper.specs.Limits.{pattern_groups, line_bytes, table_numbers, absent}
+use lib.ListN.{length, drop, length-drop}
+use borrow.Author.Tests.{leb-true}
+use Rattle.paper.specs.Limits.{pattern_groups, line_bytes, table_numbers}
 use Rattle.paper.specs.Refusal.{Checked, refused, accepted, ◌>>=◌, ◌>>◌, holds, template_wrong, line_too_long, table_too_short, row_wrong, no_such_piece}
 use Rattle.paper.specs.Rows.{Rows, row_start, row_end}
 use Rattle.paper.specs.Match.{line_and_table}
 use Rattle.paper.specs.Check.{number_at, body_length, kind_at, body_start, body_end}
 use Rattle.paper.specs.Template.{Piece, literal, reference, literal_kind, reference_kind, piece_at, template_of}
-use Rattle.paper.specs.PieceCalls.{Span, from_template, from_line, is_absent, row_span, span_of, span_at, piece_call, source_bytes}
+use Rattle.paper.specs.PieceCalls.{Span, from_template, from_line, is_absent, row_span, span_of, span_at, piece_call}
 use Rattle.template.specs.declared.Record.{Record}
-use Rattle.template.specs.Record.{Shows, From}
-use Rattle.template.proofs.Records.{never, piece_ends, from_template_law, nth_from, wrong_from}
-
--- ---- a row
-
-module _ (size start end : ℕ) where
-  pub row_absent : start ≡ absent → end ≡ absent → accepted (record { source = from_line; start = 0; end = 0 }) ≡ row_span size start end
-  row_absent s e = rw (eq-eqb start absent s, eq-eqb end absent e)
-
-  -- a row of which one number is not 65,535 is there
-  pub start_there : (start ≡ absent → ⊥) → is_absent start end ≡ false
-  start_there other = rw (ne_eqb start absent other)
-
-  pub end_there : (end ≡ absent → ⊥) → is_absent start end ≡ false
-  end_there other = rw (ne_eqb end absent other) (and-false (eqb start absent))
-
-  pub row_right : is_absent start end ≡ false → start ≤ end → end ≤ size
-      → accepted (record { source = from_line; start = start; end = end }) ≡ row_span size start end
-  row_right there up fits = rw (there, le-leb start end up, le-leb end size fits)
-
-  pub row_long : is_absent start end ≡ false → start ≤ end → size < end → refused row_wrong 0 ≡ row_span size start end
-  row_long there up past = rw (there, le-leb start end up, lt-leb end size past)
-
-  pub row_turned : is_absent start end ≡ false → end < start → refused row_wrong 0 ≡ row_span size start end
-  row_turned there down = rw (there, lt-leb start end down)
-
--- what stands in a list at an index does not hang on what would stand past its end
-get_d_any : (l : List ℕ) (i a b : ℕ) → i < length l → get_or l i a ≡ get_or l i b
-get_d_any [] i a b low = absurd (omega arith)
-get_d_any (x ∷ l) zero a b low = refl
-get_d_any (x ∷ l) (suc i) a b low = get_d_any l i a b (omega arith)
-
--- a row's two numbers, as they are read out of a table that is long enough
-pub row_read : (size row : ℕ) (table : List ℕ) → row ≤ pattern_groups → table_numbers ≤ length table
-    → row_span size (get_or table (2 * row) 0) (get_or table (2 * row + 1) 0) ≡ row_span size (row_start row table) (row_end row table)
-row_read size row table low long =
-    ap₂ (row_span size) (get_d_any table (2 * row) 0 absent (omega arith)) (get_d_any table (2 * row + 1) 0 absent (omega arith))
+use Rattle.std.proofs.Common.{None, Some}
+use Rattle.std.specs.Iterator.{Yields, SkipsThenYields}
+use Rattle.template.specs.declared.Records.{Records}
+use Rattle.template.specs.Record.{From, piece_of}
+use Rattle.template.specs.Records.{Start, Goes}
+use Rattle.template.specs.Answer.{Inside}
+use Rattle.template.proofs.Reading.{never, piece_ends, from_template_law, walk_from, walk_none}
 
 -- ---- the record of a number
 
@@ -65,21 +35,33 @@ span_at_nth zero (piece ∷ pieces) first rest is size table =
     ap (λ (p : Piece). span_of p size table) same
 span_at_nth (suc n) (piece ∷ pieces) first rest is size table = span_at_nth n pieces first rest is size table
 
--- the offset is that of the record of a number that there is
-module _ (bs : List ℕ) (at number : ℕ) (pieces : List Piece) (from : From bs at (drop number pieces)) (low : number < length pieces) where
-  pub nth_inside : at ≤ length bs
-  nth_inside = omega (arith, (nth_from bs at number pieces from low).4)
+-- the walk to a number: past so many records, those that are left stand from where it is on
+reach : (bs : List ℕ) (xs : List (ℕ × Record)) (s t : Records) (pieces : List Piece) → s.template.now ≡ bs → From bs s.at pieces → Yields Goes s xs t
+    → (t.template.now ≡ bs) × From bs t.at (drop (length xs) pieces) × (length xs ≤ length pieces)
+reach bs [] s t pieces same from is = subst (λ (u : Records). (u.template.now ≡ bs) × From bs u.at pieces × (0 ≤ length pieces)) is (same, from, omega arith)
+reach bs ((at, found) ∷ xs) s t pieces same from (j, goes, on) =
+    let (rest, split, behind) = walk_from bs s j same pieces at found from goes in
+    let (bytes, further, few) = reach bs xs j t rest (goes.0 ∙ same) behind on in
+    rw split (bytes, further, omega (arith, few))
 
-  -- it puts in what the record there puts in
-  pub nth_span : (piece : Piece) → piece_at bs at ≡ accepted piece → (size : ℕ) (table : Rows) → span_of piece size table ≡ span_at pieces number size table
-  nth_span piece is size table =
-      let (first, rest, here, next, before, there, behind) = nth_from bs at number pieces from low in
-      let same : piece ≡ first = cc in
-      ap (λ (p : Piece). span_of p size table) same ∙ sym (span_at_nth number pieces first rest here size table)
+module _ (bs : List ℕ) (s u : Records) (number : ℕ) (start : Start bs s) (pieces : List Piece) (is : template_of bs ≡ accepted pieces) where
+  from_start : From bs s.at pieces
+  from_start = subst (λ (n : ℕ). From bs n pieces) (sym start.1) (from_template_law bs pieces is)
 
-  -- which is no wrong one
-  pub nth_right : Shows bs at Record.Wrong → ⊥
-  nth_right wrong = wrong_from bs at (drop number pieces) from (nth_from bs at number pieces from low).4 wrong
+  -- there is a record of the number, and it puts in what the piece of this number does
+  pub nth_given : (at : ℕ) (found : Record) → SkipsThenYields Goes s number (Some (at, found)) u
+      → (size : ℕ) (table : Rows) → span_of (piece_of at found) size table ≡ span_at pieces number size table
+  nth_given at found (xs, (t, yields, goes), many) size table =
+      let (bytes, from, few) = reach bs xs s t pieces start.0 from_start yields in
+      let (rest, split, behind) = walk_from bs t u bytes (drop (length xs) pieces) at found from goes in
+      sym (span_at_nth number pieces (piece_of at found) rest (ap (λ (n : ℕ). drop n pieces) (sym many) ∙ split) size table)
+
+  -- there is none
+  pub nth_none : SkipsThenYields Goes s number None u → length pieces ≤ number
+  nth_none (xs, (t, yields, goes), few) =
+      let (bytes, from, low) = reach bs xs s t pieces start.0 from_start yields in
+      let none : drop (length xs) pieces ≡ [] = walk_none bs t u bytes (drop (length xs) pieces) from goes in
+      omega (arith, few, length-drop (length xs) pieces, ap length none)
 
 -- past the last there is none
 span_at_past : (pieces : List Piece) (number : ℕ) → length pieces ≤ number
@@ -95,37 +77,16 @@ module _ (template line table : List ℕ) (number : ℕ) where
       → (found >>= λ pieces. line_and_table line table >> span_at pieces number (length line) table) ≡ piece_call template line table number
   by_template found is = ap (λ (t : Checked (List Piece)). t >>= λ pieces. line_and_table line table >> span_at pieces number (length line) table) (sym is)
 
-  pub call_9 : (place : ℕ) → template_of template ≡ refused template_wrong place → refused template_wrong place ≡ piece_call template line table number
-  call_9 place is = by_template (refused template_wrong place) is
-
   module _ (pieces : List Piece) (is : template_of template ≡ accepted pieces) where
-    pub call_11 : line_bytes < length line → refused line_too_long 0 ≡ piece_call template line table number
-    call_11 long = sym (by_lt long) ∙ by_template (accepted pieces) is
-      where
-        by_lt : line_bytes < length line → (line_and_table line table >> span_at pieces number (length line) table) ≡ refused line_too_long 0
-        by_lt long = rw (lt-leb (length line) line_bytes long)
+    module _ (lent : accepted tt ≡ line_and_table line table) where
+      -- what is left to the record
+      pub call_rest : span_at pieces number (length line) table ≡ piece_call template line table number
+      call_rest = ap (λ (t : Checked (Unit {0})). t >> span_at pieces number (length line) table) lent ∙ by_template (accepted pieces) is
 
-    module _ (fits : length line ≤ line_bytes) where
-      pub call_12 : length table < table_numbers → refused table_too_short 0 ≡ piece_call template line table number
-      call_12 short = sym by_both ∙ by_template (accepted pieces) is
-        where
-          by_both : (line_and_table line table >> span_at pieces number (length line) table) ≡ refused table_too_short 0
-          by_both = rw (le-leb (length line) line_bytes fits, lt-leb table_numbers (length table) short)
-
-      -- and what is left to the record
-      pub call_rest : table_numbers ≤ length table → span_at pieces number (length line) table ≡ piece_call template line table number
-      call_rest long = sym by_both ∙ by_template (accepted pieces) is
-        where
-          by_both : (line_and_table line table >> span_at pieces number (length line) table) ≡ span_at pieces number (length line) table
-          by_both = rw (le-leb (length line) line_bytes fits, le-leb table_numbers (length table) long)
-
-      pub call_16 : table_numbers ≤ length table → length pieces ≤ number → refused no_such_piece 0 ≡ piece_call template line table number
-      call_16 long past = sym (span_at_past pieces number past (length line) table) ∙ call_rest long
+      pub call_16 : length pieces ≤ number → refused no_such_piece 0 ≡ piece_call template line table number
+      call_16 past = sym (span_at_past pieces number past (length line) table) ∙ call_rest
 
 -- ---- every part that is answered lies in its source
-
-abbrev pub Inside : List ℕ → List ℕ → Span → Type 0
-Inside template line span = (span.start ≤ span.end) × (span.end ≤ length (source_bytes span.source template line))
 
 literal_inside : (bs : List ℕ) (at place start end : ℕ) → piece_at bs at ≡ accepted (literal place start end) → (start ≤ end) × (end ≤ length bs)
 literal_inside bs at place start end is =

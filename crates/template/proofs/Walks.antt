@@ -1,18 +1,21 @@
--- What the loops over a template keep, and a law for each way round them: counting the records, seeking a reference that is
--- too high, and going to the record of a number.
+-- What the walks over a template keep, and a law for each way round them: counting the records, seeking a reference that is too high, and
+-- going to the record of a number.
 use Prim.Native.Nat.{ℕ, zero, suc, ◌+◌, ◌-◌, ◌≤◌, ◌<◌}
 use native.Mathlib.Omega.{arith}
 use mathlib.Core.Path.{◌≡◌, refl, sym, ◌∙◌, ap, subst}
 use mathlib.Core.List.{List, [], ◌∷◌}
-use lib.ListN.{length, drop}
+use lib.ListN.{length}
 use borrow.Author.Tests.{lt-ltb, le-ltb, le-leb, lt-leb}
+use Rattle.std.proofs.Common.{None, Some}
 use Rattle.paper.specs.Limits.{template_bytes}
 use Rattle.paper.specs.Refusal.{Checked, refused, accepted, ◌>>=◌, template_wrong, reference_too_high}
 use Rattle.paper.specs.Check.{body_end}
-use Rattle.paper.specs.Template.{Piece, literal, reference, piece_at, pieces_from, template_of, within}
+use Rattle.paper.specs.Template.{Piece, reference, piece_at, pieces_from, template_of, within}
 use Rattle.template.specs.declared.Record.{Record}
-use Rattle.template.specs.Record.{Shows, From, Numbered, record_count}
-use Rattle.template.proofs.Records.{piece_ends, from_template_law, none_from, nth_from, literal_from, reference_from, wrong_from, numbered_low}
+use Rattle.template.specs.declared.Records.{Records}
+use Rattle.template.specs.Record.{Shows, From, piece_of, next_of, record_count}
+use Rattle.template.specs.Records.{Start, Goes}
+use Rattle.template.proofs.Reading.{from_template_law, walk_from, walk_none}
 
 -- ---- counting
 
@@ -51,136 +54,95 @@ module _ (bs : List ℕ) where
   count_all : length bs ≤ template_bytes → record_count bs ≡ counts 0 (pieces_from (length bs) bs 0)
   count_all short = rw (le-leb _ _ short) (counts_all (pieces_from (length bs) bs 0))
 
-  -- too long is 9 at 0
-  pub count_long : template_bytes < length bs → refused template_wrong 0 ≡ record_count bs
-  count_long long = rw (lt-leb _ _ long)
-
-  pub count_start : Counting bs 0 0
-  count_start =
-      let all : length bs ≡ length bs - 0 = omega arith in
-      record { inside = omega arith; few = omega arith; same = ap (λ (n : ℕ). counts 0 (pieces_from n bs 0)) all }
-
   module _ (at count : ℕ) (kept : Counting bs at count) where
     -- what is found from here on, by the record that stands here
     here : at < length bs → (piece : Checked Piece) → piece_at bs at ≡ piece
         → counts 0 (pieces_from (length bs) bs 0)
         ≡ counts count (piece >>= λ first. pieces_from (length bs - (count + 1)) bs (body_end bs at) >>= λ rest. accepted (first ∷ rest))
     here before piece is =
-        let one_left : length bs - count ≡ suc (length bs - (count + 1)) = omega arith in
+        let one_left : length bs - count ≡ suc (length bs - (count + 1)) = omega (arith, kept.few) in
         kept.same ∙ ap (λ (n : ℕ). counts count (pieces_from n bs at)) one_left ∙ ap (counts count) (turn (length bs - (count + 1)) at before piece is)
 
-    count_next : at < length bs → (piece : Piece) → piece_at bs at ≡ accepted piece → (next : ℕ) → next ≡ body_end bs at → at < next
-        → Counting bs next (count + 1)
-    count_next before piece is next ends further = record {
-      inside = omega (arith, piece_ends bs at piece is);
-      few = omega arith;
+    pub count_next : (found : Record) → Shows bs at (Some found) → Counting bs (next_of found) (count + 1)
+    count_next found shows = record {
+      inside = shows.3;
+      few = omega (arith, kept.few, shows.2);
       same =
           let turns = length bs - (count + 1) in
-          here before (accepted piece) is ∙ counts_one_more count piece (pieces_from turns bs (body_end bs at))
-          ∙ ap (λ (n : ℕ). counts (count + 1) (pieces_from turns bs n)) (sym ends);
+          let piece = piece_of at found in
+          here (omega (arith, shows.2, shows.3)) (accepted piece) shows.0 ∙ counts_one_more count piece (pieces_from turns bs (body_end bs at))
+          ∙ ap (λ (n : ℕ). counts (count + 1) (pieces_from turns bs n)) (sym shows.4);
     }
 
-    pub count_literal : at < length bs → (start end : ℕ) → Shows bs at (Record.Literal start end) → Counting bs end (count + 1)
-    count_literal before start end shows = count_next before (literal at start end) shows.0 end shows.4 (omega arith)
-
-    pub count_reference : at < length bs → (row next : ℕ) → Shows bs at (Record.Reference row next) → Counting bs next (count + 1)
-    count_reference before row next shows = count_next before (reference at row) shows.0 next shows.4 shows.2
-
-    pub count_wrong : length bs ≤ template_bytes → at < length bs → piece_at bs at ≡ refused template_wrong at → refused template_wrong at ≡ record_count bs
+    pub count_wrong : length bs ≤ template_bytes → at < length bs → Shows bs at None → refused template_wrong at ≡ record_count bs
     count_wrong short before is = sym (count_all short ∙ here before (refused template_wrong at) is)
 
     pub count_end : length bs ≤ template_bytes → length bs ≤ at → accepted count ≡ record_count bs
     count_end short past =
         sym (count_all short ∙ kept.same ∙ ap (counts count) (stop (length bs - count) at past) ∙ ap accepted (omega arith))
 
+-- the same of the walk, by what a call gives: `s` is the walk before it, `t` after it
+module _ (bs : List ℕ) (s t : Records) (count : ℕ) (same : s.template.now ≡ bs) (kept : Counting bs s.at count) where
+  pub count_step : (at : ℕ) (found : Record) → Goes s (Some (at, found)) t → (t.template.now ≡ bs) × Counting bs t.at (count + 1)
+  count_step at found goes =
+      let shows = subst (λ (b : List ℕ). Shows b s.at (Some found)) same goes.3 in
+      (goes.0 ∙ same, subst (λ (n : ℕ). Counting bs n (count + 1)) (sym goes.1) (count_next bs s.at count kept found shows))
+
+  pub count_stops : Goes s None t → length bs ≤ template_bytes → t.at < length bs → refused template_wrong t.at ≡ record_count bs
+  count_stops goes short before =
+      let shows = subst (λ (b : List ℕ). Shows b s.at None) same goes.2 in
+      rw goes.1 (count_wrong bs s.at count kept short (omega (arith, goes.1)) shows)
+
+  pub count_ends : Goes s None t → length bs ≤ template_bytes → length bs ≤ t.at → accepted count ≡ record_count bs
+  count_ends goes short past = count_end bs s.at count kept short (omega (arith, goes.1))
+
 -- ---- seeking
 
--- no reference before the offset is too high: what is left decides
-pub record Seeking (bs : List ℕ) (groups at : ℕ) : Type 0 where
-  pub inside : at ≤ length bs
-  pub left : (pieces : List Piece) → template_of bs ≡ accepted pieces → (rest : List Piece) × From bs at rest × (within pieces groups ≡ within rest groups)
+-- no reference before where the walk is is too high: what is left decides
+pub record Seeking (bs : List ℕ) (groups : ℕ) (s : Records) : Type 0 where
+  pub bytes : s.template.now ≡ bs
+  pub left : (pieces : List Piece) → template_of bs ≡ accepted pieces → (rest : List Piece) × From bs s.at rest × (within pieces groups ≡ within rest groups)
 
-module _ (bs : List ℕ) (groups : ℕ) where
-  pub seek_start : Seeking bs groups 0
-  seek_start = record { inside = omega arith; left = λ pieces is. (pieces, from_template_law bs pieces is, refl) }
+module _ (bs : List ℕ) (groups : ℕ) (s : Records) where
+  pub seek_start : Start bs s → Seeking bs groups s
+  seek_start starts =
+      record { bytes = starts.0; left = λ pieces is. (pieces, subst (λ (n : ℕ). From bs n pieces) (sym starts.1) (from_template_law bs pieces is), refl) }
 
-  module _ (at : ℕ) (kept : Seeking bs groups at) where
-    pub seek_literal : at < length bs → (start end : ℕ) → Shows bs at (Record.Literal start end) → Seeking bs groups end
-    seek_literal before start end shows = record {
-      inside = shows.3;
-      left = λ pieces all.
-          let (left, from, same) = kept.left pieces all in
-          let (rest, split, behind) = literal_from bs at left start end from before shows in
-          (rest, behind, same ∙ ap (λ (l : List Piece). within l groups) split);
-    }
-
-    -- what is left begins with the reference here
-    at_reference : at < length bs → (row next : ℕ) → Shows bs at (Record.Reference row next) → (pieces : List Piece) → template_of bs ≡ accepted pieces
-        → (rest : List Piece) × From bs next rest × (within pieces groups ≡ within (reference at row ∷ rest) groups)
-    at_reference before row next shows pieces all =
+  module _ (t : Records) (kept : Seeking bs groups s) where
+    -- what is left begins with the record here
+    at_record : (at : ℕ) (found : Record) → Goes s (Some (at, found)) t → (pieces : List Piece) → template_of bs ≡ accepted pieces
+        → (rest : List Piece) × From bs t.at rest × (within pieces groups ≡ within (piece_of at found ∷ rest) groups)
+    at_record at found goes pieces all =
         let (left, from, same) = kept.left pieces all in
-        let (rest, split, behind) = reference_from bs at left row next from before shows in
+        let (rest, split, behind) = walk_from bs s t kept.bytes left at found from goes in
         (rest, behind, same ∙ ap (λ (l : List Piece). within l groups) split)
 
-    pub seek_reference : at < length bs → (row next : ℕ) → Shows bs at (Record.Reference row next) → row ≤ groups → Seeking bs groups next
-    seek_reference before row next shows low = record {
-      inside = shows.3;
+    pub seek_literal : (at : ℕ) (found : Record) → Goes s (Some (at, found)) t → ((row next : ℕ) → found ≡ Record.Reference row next → ⊥) → Seeking bs groups t
+    seek_literal at (Record.Literal start end) goes other = record { bytes = goes.0 ∙ kept.bytes; left = at_record at (Record.Literal start end) goes }
+    seek_literal at (Record.Reference row next) goes other = absurd (other row next refl)
+
+    -- what is left begins with a reference to a row
+    at_reference : (at : ℕ) (found : Record) → Goes s (Some (at, found)) t → (row next : ℕ) → found ≡ Record.Reference row next → (pieces : List Piece)
+        → template_of bs ≡ accepted pieces → (rest : List Piece) × From bs t.at rest × (within pieces groups ≡ within (reference at row ∷ rest) groups)
+    at_reference at found goes row next is pieces all =
+        let (rest, behind, same) = at_record at found goes pieces all in
+        (rest, behind, same ∙ ap (λ (r : Record). within (piece_of at r ∷ rest) groups) is)
+
+    pub seek_reference : (at : ℕ) (found : Record) → Goes s (Some (at, found)) t → (row next : ℕ) → found ≡ Record.Reference row next → row ≤ groups → Seeking bs groups t
+    seek_reference at found goes row next is low = record {
+      bytes = goes.0 ∙ kept.bytes;
       left = λ pieces all.
-          let (rest, behind, same) = at_reference before row next shows pieces all in
+          let (rest, behind, same) = at_reference at found goes row next is pieces all in
           (rest, behind, same ∙ (rw (le-leb row groups low)));
     }
 
-    pub seek_high : at < length bs → (row next : ℕ) → Shows bs at (Record.Reference row next) → groups < row → (pieces : List Piece)
-        → template_of bs ≡ accepted pieces → refused reference_too_high at ≡ within pieces groups
-    seek_high before row next shows high pieces all =
-        let (rest, behind, same) = at_reference before row next shows pieces all in
+    pub seek_high : (at : ℕ) (found : Record) → Goes s (Some (at, found)) t → (row next : ℕ) → found ≡ Record.Reference row next → groups < row
+        → (pieces : List Piece) → template_of bs ≡ accepted pieces → refused reference_too_high at ≡ within pieces groups
+    seek_high at found goes row next is high pieces all =
+        let (rest, behind, same) = at_reference at found goes row next is pieces all in
         sym (same ∙ (rw (lt-leb row groups high)))
 
-    pub seek_end : length bs ≤ at → (pieces : List Piece) → template_of bs ≡ accepted pieces → accepted tt ≡ within pieces groups
-    seek_end past pieces all =
+    pub seek_end : Goes s None t → (pieces : List Piece) → template_of bs ≡ accepted pieces → accepted tt ≡ within pieces groups
+    seek_end goes pieces all =
         let (left, from, same) = kept.left pieces all in
-        sym (same ∙ ap (λ (l : List Piece). within l groups) (none_from bs at left from past))
-
-    -- a template that is not refused has no wrong record
-    pub seek_wrong : at < length bs → Shows bs at Record.Wrong → (pieces : List Piece) → template_of bs ≡ accepted pieces → ⊥
-    seek_wrong before shows pieces all =
-        let (left, from, same) = kept.left pieces all in
-        wrong_from bs at left from before shows
-
--- ---- going to a number
-
--- the records from the offset on are those from the number on, less the bodies that are still to be passed
-pub record Reaching (bs : List ℕ) (number at left : ℕ) : Type 0 where
-  pub low : left ≤ number
-  pub from : (pieces : List Piece) → template_of bs ≡ accepted pieces → From bs at (drop (number - left) pieces)
-
-module _ (bs : List ℕ) (number : ℕ) where
-  pub reach_start : Reaching bs number 0 number
-  reach_start =
-      let none : 0 ≡ number - number = omega arith in
-      record { low = omega arith; from = λ pieces is. subst (λ (n : ℕ). From bs 0 (drop n pieces)) none (from_template_law bs pieces is) }
-
-  module _ (at left : ℕ) (kept : Reaching bs number at left) (there : Numbered bs number) (some : 0 < left) where
-    behind : (pieces : List Piece) → template_of bs ≡ accepted pieces
-        → (body_end bs at ≤ length bs) × From bs (body_end bs at) (drop (number - (left - 1)) pieces)
-    behind pieces is =
-        let low : number - left < length pieces = omega (arith, kept.low, numbered_low bs number there pieces is) in
-        let (first, rest, split, next, before, here, from) = nth_from bs at (number - left) pieces (kept.from pieces is) low in
-        let one : number - left + 1 ≡ number - (left - 1) = omega (arith, kept.low) in
-        (piece_ends bs at first here, subst (From bs (body_end bs at)) (sym next ∙ ap (λ (n : ℕ). drop n pieces) one) from)
-
-    -- a whole record stands at the offset
-    pub reach_body : body_end bs at ≤ length bs
-    reach_body = (behind there.0 there.1).0
-
-    pub reach_next : (next : ℕ) → next ≡ body_end bs at → Reaching bs number next (left - 1)
-    reach_next next ends = record {
-      low = omega (arith, kept.low);
-      from = λ pieces is. subst (λ (n : ℕ). From bs n (drop (number - (left - 1)) pieces)) (sym ends) (behind pieces is).1;
-    }
-
-  pub reach_end : (at left : ℕ) → Reaching bs number at left → left ≤ 0
-      → (pieces : List Piece) → template_of bs ≡ accepted pieces → From bs at (drop number pieces)
-  reach_end at left kept none pieces is =
-      let all : number - left ≡ number = omega arith in
-      subst (λ (n : ℕ). From bs at (drop n pieces)) all (kept.from pieces is)
+        sym (same ∙ ap (λ (l : List Piece). within l groups) (walk_none bs s t kept.bytes left from goes))

@@ -1,3 +1,4 @@
--- How the enums of this crate are read.
+-- How the types of this crate are read.
 pub mod Record
+pub mod Records
 pub mod Answer

@@ -1,226 +1,202 @@
 // Templates: their records, checked and read one by one, and what a record puts in, without copying (01, "Replace-all").
 #![tactic(auto)]
 
-ghost use Rattle.std.specs.Prelude.{◌≡◌, List, ℕ, ◌≤◌, ◌<◌, length, drop};
+ghost use Rattle.std.specs.Prelude.{◌≡◌, ℕ, List, ◌-◌, ◌≤◌, length};
 ghost use Rattle.paper.specs.Limits.{pattern_groups, table_numbers};
 ghost use Rattle.paper.specs.Refusal.{accepted};
 ghost use Rattle.paper.specs.Rows.{row_start, row_end};
-ghost use Rattle.paper.specs.Template.{Piece, template_of, within};
-ghost use Rattle.paper.specs.PieceCalls.{row_span, span_at, piece_call};
-ghost use Rattle.template.specs.Record.{Shows, From, count_of, record_count, references_of, references_call, Lawful, Numbered};
-ghost use Rattle.template.specs.Answer.{answer_of, IsPart};
+ghost use Rattle.paper.specs.Template.{template_of, within};
+ghost use Rattle.paper.specs.Template as paper;
+ghost use Rattle.paper.specs.PieceCalls.{row_span, piece_call};
+ghost use Rattle.template.specs.Record.{Shows, next_of, count_of, record_count, references_of, references_call, Lawful};
+ghost use Rattle.template.specs.Answer.{span_of, answer_of, Inside, IsPart};
 
-use pattern::{Line, Pattern, Refusal, Spans, Template};
-use records::{BEFORE_BODY, Header, header_at, number_at};
+use pattern::{Pattern, Refusal, Refused, Spans, Template};
+use records::{Header, header_at, number_at};
+
+// Where a piece's bytes stand.
+#[derive(Clone, Copy, Debug, PartialEq, Eq)]
+pub enum Source {
+    Template,
+    Line,
+}
+
+// What a template record puts in: the bytes of its source from start to end.
+#[derive(Clone, Copy, Debug, PartialEq, Eq)]
+pub struct Span {
+    pub source: Source,
+    pub start: usize,
+    pub end: usize,
+}
+
+impl Span {
+    fn new(source: Source, start: usize, end: usize) -> Span
+        ensures { result ≡ record { source = source; start = start; end = end } }
+    {
+        Span { source, start, end }
+    }
+
+    // The bytes themselves.
+    fn bytes<'a>(self, template: &'a [u8], line: &'a [u8]) -> &'a [u8]
+        requires { Inside template.now line.now (span_of self) }
+        ensures { IsPart (accepted (span_of self)) template.entry line.entry result }
+    {
+        match self.source {
+            Source::Template => &template[self.start..self.end],
+            Source::Line => &line[self.start..self.end],
+        }
+    }
+}
 
 // The two kinds of a template's records.
 const LITERAL: usize = 32;
 
 const REFERENCE: usize = 33;
 
-// What stands at an offset of a template.
-#[derive(Clone, Copy)]
+// A record of a template.
+#[derive(Clone, Copy, Debug, PartialEq, Eq)]
 pub enum Record {
-    // No record of a template.
-    Wrong,
     // The template's bytes from start to end; the next record stands at end.
     Literal { start: usize, end: usize },
     // The bytes of a row; the next record stands at next.
     Reference { row: usize, next: usize },
 }
 
-// How many records a template has, or where it is wrong.
-#[derive(Clone, Copy)]
-pub enum Counted {
-    Wrong(usize),
-    Records(usize),
+impl Record {
+    // Where the next record stands.
+    fn next(self) -> usize
+        ensures { result ≡ next_of self }
+    {
+        match self {
+            Record::Literal { end, .. } => end,
+            Record::Reference { next, .. } => next,
+        }
+    }
 }
 
-// Where a template is wrong, or where its first reference above the groups stands, or that there is none.
-#[derive(Clone, Copy)]
-pub enum References {
-    Wrong(usize),
-    TooHigh(usize),
-    Within,
-}
-
-// What a piece is: a refusal's number and place, or a start and an end in the template or in the line.
-#[derive(Clone, Copy)]
-pub enum Answer {
-    Refused { number: usize, place: usize },
-    Template { start: usize, end: usize },
-    Line { start: usize, end: usize },
-}
-
-// The record at an offset of a template.
-pub fn record_at(template: &[u8], at: usize) -> Record
+// The record at an offset of a template, unless it is wrong.
+pub fn record_at(template: &[u8], at: usize) -> Option<Record>
     requires { at ≤ length template.now }
     ensures { Shows template.now at result }
 {
-    let Some(Header { kind, start, end }) = header_at(template, at, template.len()) else {
-        return Record::Wrong;
-    };
-    if kind == LITERAL {
-        if start < end {
-            return Record::Literal { start, end };
+    let Header { kind, start, end } = header_at(template, at, template.len())?;
+    match kind {
+        LITERAL if start < end => Some(Record::Literal { start, end }),
+        REFERENCE if end - start == 2 => {
+            let row = number_at(template, start);
+            (row <= Pattern::GROUPS).then_some(Record::Reference { row, next: end })
         }
-        return Record::Wrong;
+        _ => None,
     }
-    if kind != REFERENCE {
-        return Record::Wrong;
+}
+
+// The records of a template in order, each with where it stands. They end at the template's end, or where one is wrong.
+#[derive(Drop)]
+pub struct Records<'a> {
+    template: &'a [u8],
+    at: usize,
+    ghost inside: { at ≤ length template.now },
+}
+
+impl<'a> Records<'a> {
+    ghost use Rattle.template.specs.Records.{Start};
+
+    // From the start on.
+    pub fn new(template: &'a [u8]) -> Records<'a>
+        ensures { Start template.now result }
+    {
+        Records { template, at: 0 }
     }
-    if end - start != 2 {
-        return Record::Wrong;
-    }
-    let row = number_at(template, start);
-    if row <= Pattern::GROUPS {
-        Record::Reference { row, next: end }
-    } else {
-        Record::Wrong
+}
+
+impl<'a> Iterator for Records<'a> {
+    ghost use Rattle.std.specs.Iterator.{at_most};
+    ghost use Rattle.template.specs.Records.{Goes};
+
+    type Item = (usize, Record);
+
+    ghost next_gives = { Goes };
+
+    ghost remaining = { λ s. at_most (length s.template.now - s.at) };
+
+    fn next(&mut self) -> Option<(usize, Record)> {
+        let at = self.at;
+        let record = record_at(self.template, at)?;
+        self.at = record.next();
+        Some((at, record))
     }
 }
 
 // Refusal 9, or the number of records: the walk over all of them.
-pub fn check_template(template: &[u8]) -> Counted
+pub fn check_template(template: &[u8]) -> Result<usize, Refused>
     ensures { count_of result ≡ record_count template.now }
 {
     if Template::BYTES < template.len() {
-        return Counted::Wrong(0);
+        return Err(Refusal::TemplateWrong.at(0));
     }
-    let mut at = 0;
+    let mut records = Records::new(template);
+    // the library's `count` does not say where it leaves the walk, which is the answer
     let mut count = 0;
-    while at < template.len() {
-        match record_at(template, at) {
-            Record::Wrong => return Counted::Wrong(at),
-            Record::Literal { start: _, end } => {
-                at = end;
-                count += 1;
-            }
-            Record::Reference { row: _, next } => {
-                at = next;
-                count += 1;
-            }
-        }
+    while let Some(_) = records.next() {
+        count += 1;
     }
-    Counted::Records(count)
+    if records.at < template.len() {
+        return Err(Refusal::TemplateWrong.at(records.at));
+    }
+    Ok(count)
 }
 
 // Refusal 10 of a template that 9 does not refuse: the walk to the first reference above the groups.
-fn first_too_high(template: &[u8], groups: usize) -> References
+fn first_too_high(template: &[u8], groups: usize) -> Result<(), Refused>
     requires { Lawful template.now }
-    ensures { (pieces : List Piece) → template_of template.now ≡ accepted pieces → references_of result ≡ within pieces groups }
+    ensures { (pieces : List paper.Piece) → template_of template.now ≡ accepted pieces → references_of result ≡ within pieces groups }
 {
-    let mut at = 0;
-    while at < template.len() {
-        match record_at(template, at) {
-            Record::Wrong => return References::Wrong(at),
-            Record::Literal { start: _, end } => at = end,
-            Record::Reference { row, next } => {
-                if groups < row {
-                    return References::TooHigh(at);
-                }
-                at = next;
+    for (at, record) in Records::new(template) {
+        if let Record::Reference { row, .. } = record {
+            if groups < row {
+                return Err(Refusal::ReferenceTooHigh.at(at));
             }
         }
     }
-    References::Within
+    Ok(())
 }
 
 // Refusals 9 and 10: all of the first before any of the second.
-pub fn references_within(template: &[u8], groups: usize) -> References
+pub fn references_within(template: &[u8], groups: usize) -> Result<(), Refused>
     ensures { references_of result ≡ references_call template.now groups }
 {
-    match check_template(template) {
-        Counted::Wrong(place) => References::Wrong(place),
-        Counted::Records(_) => first_too_high(template, groups),
-    }
-}
-
-// Where the record of a number stands: past as many bodies.
-fn place_of(template: &[u8], number: usize) -> usize
-    requires { Numbered template.now number }
-    ensures { (pieces : List Piece) → template_of template.now ≡ accepted pieces → From template.now result (drop number pieces) }
-{
-    let mut at = 0;
-    let mut left = number;
-    while 0 < left {
-        at = at + BEFORE_BODY + number_at(template, at);
-        left -= 1;
-    }
-    at
+    check_template(template)?;
+    first_too_high(template, groups)
 }
 
 // A row's part of a line so long; an absent one is the empty part at the line's start.
-fn row_part(size: usize, table: &[u16], row: usize) -> Answer
+fn row_part(size: usize, table: &[u16], row: usize) -> Result<Span, Refused>
     requires { (row ≤ pattern_groups) × (table_numbers ≤ length table.now) }
     ensures { answer_of result ≡ row_span size (row_start row table.now) (row_end row table.now) }
 {
     let first = table[2 * row];
     let last = table[2 * row + 1];
-    if first == Spans::ABSENT {
-        if last == Spans::ABSENT {
-            return Answer::Line { start: 0, end: 0 };
-        }
+    if first == Spans::ABSENT && last == Spans::ABSENT {
+        return Ok(Span::new(Source::Line, 0, 0));
     }
-    let start = first as usize;
-    let end = last as usize;
-    if start <= end {
-        if end <= size {
-            return Answer::Line { start, end };
-        }
+    let start = usize::from(first);
+    let end = usize::from(last);
+    if start <= end && end <= size {
+        return Ok(Span::new(Source::Line, start, end));
     }
-    Answer::Refused {
-        number: Refusal::RowWrong as usize,
-        place: 0,
-    }
-}
-
-// What the record of a number puts in, for a line so long.
-fn record_part(template: &[u8], size: usize, table: &[u16], number: usize) -> Answer
-    requires { Numbered template.now number × (table_numbers ≤ length table.now) }
-    ensures { (pieces : List Piece) → template_of template.now ≡ accepted pieces → answer_of result ≡ span_at pieces number size table.now }
-{
-    let at = place_of(template, number);
-    match record_at(template, at) {
-        Record::Wrong => Answer::Refused {
-            number: Refusal::TemplateWrong as usize,
-            place: at,
-        },
-        Record::Literal { start, end } => Answer::Template { start, end },
-        Record::Reference { row, next: _ } => row_part(size, table, row),
-    }
+    Err(Refusal::RowWrong.at(0))
 }
 
 // What a template record puts in: source, start and end; or 9, 11, 12, 16 and 15, tested in this order.
-pub fn piece(template: &[u8], line: &[u8], table: &[u16], number: usize) -> Answer
+pub fn piece(template: &[u8], line: &[u8], table: &[u16], number: usize) -> Result<Span, Refused>
     ensures { answer_of result ≡ piece_call template.now line.now table.now number }
 {
-    match check_template(template) {
-        Counted::Wrong(place) => Answer::Refused {
-            number: Refusal::TemplateWrong as usize,
-            place,
-        },
-        Counted::Records(count) => {
-            if Line::BYTES < line.len() {
-                return Answer::Refused {
-                    number: Refusal::LineTooLong as usize,
-                    place: 0,
-                };
-            }
-            if table.len() < Spans::NUMBERS {
-                return Answer::Refused {
-                    number: Refusal::TableTooShort as usize,
-                    place: 0,
-                };
-            }
-            if count <= number {
-                return Answer::Refused {
-                    number: Refusal::NoSuchPiece as usize,
-                    place: 0,
-                };
-            }
-            record_part(template, line.len(), table, number)
-        }
+    check_template(template)?;
+    pattern::lent(line, table)?;
+    match Records::new(template).nth(number) {
+        None => Err(Refusal::NoSuchPiece.at(0)),
+        Some((_, Record::Literal { start, end })) => Ok(Span::new(Source::Template, start, end)),
+        Some((_, Record::Reference { row, .. })) => row_part(line.len(), table, row),
     }
 }
 
@@ -229,11 +205,7 @@ pub fn part<'a>(template: &'a [u8], line: &'a [u8], table: &[u16], number: usize
     ensures { IsPart (piece_call template.now line.now table.now number) template.entry line.entry result }
 {
     match piece(template, line, table, number) {
-        Answer::Refused {
-            number: _,
-            place: _,
-        } => &template[..0],
-        Answer::Template { start, end } => &template[start..end],
-        Answer::Line { start, end } => &line[start..end],
+        Ok(span) => span.bytes(template, line),
+        Err(_) => &template[..0],
     }
 }

@@ -1,4 +1,3 @@
 -- Laws of this crate that belong to no one function.
-pub mod Written
-pub mod Putting
+pub mod PutIn
 pub mod Turning

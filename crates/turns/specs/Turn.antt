@@ -1,26 +1,34 @@
 -- A turn of the scan as the code holds it, read as the definition's.
-use Rattle.std.specs.Prelude.{ℕ, ◌≤◌, ◌≡◌, Bool, true, false, cond, eqb}
-use Rattle.std.proofs.Math.Option.{Option, none, some}
-use Rattle.paper.specs.Limits.{line_bytes, absent}
+use Rattle.std.specs.Prelude.{ℕ, ◌≤◌, ◌≡◌, Option, Some, None, cond}
+use Rattle.std.specs.Option.{is_some, unwrap_or}
+use Rattle.std.proofs.Math.Option as math
+use Rattle.paper.specs.Limits.{line_bytes}
 use Rattle.paper.specs.Rows.{Rows, no_rows, row_end}
 use Rattle.paper.specs.ScanTurn as paper
 use Rattle.turns.specs.declared.Turn.{Turn}
 
--- where the last non-empty match ended; the number of an absent row, which is no place, before there is one
-abbrev pub last_of : ℕ → Option ℕ
-last_of last = cond (eqb last absent) none (some last)
+-- an option, read as `paper`'s
+abbrev pub option_of : {A : Type 0} → Option A → math.Option A
+option_of None = math.none
+option_of (Some a) = math.some a
 
--- what a search found
-abbrev pub found_of : Bool → Rows → Option Rows
-found_of true rows = some rows
-found_of false rows = none
-
--- what a search in a line so long leaves: rows inside it, all absent where there is no match
-pub record Finds (size : ℕ) (matched : Bool) (rows : Rows) : Type 0 where
+-- what a search in a line so long leaves: rows inside it, where there is a match
+pub record Finds (size : ℕ) (found : Option Rows) : Type 0 where
   pub short : size ≤ line_bytes
-  pub inside : matched ≡ true → row_end 0 rows ≤ size
-  pub none_there : matched ≡ false → rows ≡ no_rows
+  pub inside : (rows : Rows) → found ≡ Some rows → row_end 0 rows ≤ size
 
 abbrev pub as_turn : Turn → paper.Turn
 as_turn t =
-    record { start = t.start; put = t.put; rows = t.rows; upto = t.upto; goes = t.goes; next = t.next; last = last_of t.last }
+    record {
+      start = t.start;
+      put = is_some t.put;
+      rows = unwrap_or t.put no_rows;
+      upto = t.upto;
+      goes = is_some t.goes;
+      next = unwrap_or t.goes 0;
+      last = option_of t.last;
+    }
+
+-- what the code keeps of a turn: its rows only where the template is put in, and where the scan goes on only where it does
+abbrev pub kept : paper.Turn → paper.Turn
+kept t = record t { rows = cond t.put t.rows no_rows; next = cond t.goes t.next 0 }

@@ -5,4 +5,4 @@ use Rattle.pick.proofs.with_pattern.Goals as goal
 pub all_lines-ended-requires-clause-roomy : goal.all_lines-ended-requires-clause-roomy
 all_lines-ended-requires-clause-roomy c =
     let lent = c.lend.ensures in
-    ready_scratch c.in-Machine.ensures.0 lent.seen lent.taken lent.lists lent.pending
+    ready_scratch c.in-Ok.ensures.0 lent.seen lent.taken lent.lists lent.pending

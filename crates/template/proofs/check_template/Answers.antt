@@ -1,19 +1,20 @@
-use Rattle.template.proofs.Walks.{count_literal, count_reference, count_wrong, count_end}
+use Rattle.template.proofs.Walks.{count_step, count_stops, count_ends}
 use Rattle.template.proofs.check_template.Goals as goal
 
-pub returns-in-Wrong : goal.returns-in-Wrong
-returns-in-Wrong c =
-    count_wrong c.args.template.now c.loop-at.at c.loop-at.count c.loop-at.invariant c.if-template-gt-BYTES.false c.loop-at-test.true c.in-Wrong.ensures
+pub loop-count-preserved : goal.loop-count-preserved
+loop-count-preserved c =
+    let l = c.loop-count in
+    count_step c.args.template.now l.records c.next.new.self l.count l.invariant.0 l.invariant.1 c.in-Some.field-0.0 c.in-Some.field-0.1 c.in-Some.ensures.steps
 
-pub loop-at-preserved-in-Literal : goal.loop-at-preserved-in-Literal
-loop-at-preserved-in-Literal c =
-    count_literal c.args.template.now c.loop-at.at c.loop-at.count c.loop-at.invariant c.loop-at-test.true
-    c.in-Literal.start c.in-Literal.end c.in-Literal.ensures
-
-pub loop-at-preserved : goal.loop-at-preserved
-loop-at-preserved c =
-    count_reference c.args.template.now c.loop-at.at c.loop-at.count c.loop-at.invariant c.loop-at-test.true
-    c.in-Reference.row c.in-Reference.next c.in-Reference.ensures
+pub returns-then-records-template : goal.returns-then-records-template
+returns-then-records-template c =
+    let l = c.loop-count in
+    rw c.at-then-records-template.ensures
+    (count_stops c.args.template.now l.records c.next.new.self l.count l.invariant.0 l.invariant.1 c.in_default.ensures.steps
+    c.if-template-gt-BYTES.false c.if-records-template.true)
 
 pub returns : goal.returns
-returns c = count_end c.args.template.now c.loop-at.at c.loop-at.count c.loop-at.invariant c.if-template-gt-BYTES.false c.loop-at-test.false
+returns c =
+    let l = c.loop-count in
+    count_ends c.args.template.now l.records c.next.new.self l.count l.invariant.0 l.invariant.1 c.in_default.ensures.steps
+    c.if-template-gt-BYTES.false c.if-records-template.false

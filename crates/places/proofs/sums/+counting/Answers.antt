@@ -1,46 +1,51 @@
--- Each answer asks for the first of the records that are left, and the law for what is told of it.
+-- Each answer asks for the record that is counted, and the law for what is told of it.
 use Rattle.std.proofs.Common.{◌+◌, arith}
+use Rattle.places.proofs.Adding.{first, first_kind, inside_after, read_inside, read_own, read_groups, read_all, place_counted, empty_counted, summing_inside, summing_alone, summing_few, summing_more, summing_left, summing_all}
 use Rattle.places.specs.Sums.{number_of}
-use Rattle.places.proofs.Adding.{adding_none, first, first_kind, adding_all, inside_after, read_inside, read_own, read_groups, adding_turn}
 use Rattle.places.proofs.sums.+counting.Goals as goal
 
-pub count-loop-from-init : goal.count-loop-from-init
-count-loop-from-init t c = adding_none c.requires
-
-pub count-known_kind-kind-requires : goal.count-known_kind-kind-requires
-count-known_kind-kind-requires t c = let f = first c.requires c.loop-from.invariant c.loop-from-test.true in omega arith
-
-pub count-number_at-requires : goal.count-number_at-requires
-count-number_at-requires t c = let f = first c.requires c.loop-from.invariant c.loop-from-test.true in omega arith
-
-pub count-counted-inside-requires : goal.count-counted-inside-requires
-count-counted-inside-requires t c =
-    let f = first c.requires c.loop-from.invariant c.loop-from-test.true in (
-      omega (arith, inside_after (number_of c.known_kind-kind.result) (c.loop-from.from + 4) (c.loop-from.from + 4 + c.number_at.result) (omega arith)),
-      read_inside c.loop-from.from (first_kind _ f c.known_kind-kind.ensures) c.number_at.ensures.0 c.inside_start.ensures f,
+pub Record::counted-sums-inside-requires : goal.Record::counted-sums-inside-requires
+Record::counted-sums-inside-requires t c =
+    let f = first c.requires.counting (omega (arith, c.requires.ends)) in
+    let ek = first_kind _ f c.known_kind-kind.ensures in (
+      omega (arith, c.inside_start.ensures, c.requires.ends, inside_after (number_of c.known_kind-kind.result) (c.args.self.at + 4) c.args.self.end (omega (arith, c.requires.ends))),
+      read_inside _ _ ek c.requires.ends c.inside_start.ensures f,
     )
 
-pub count-own_places-own-requires : goal.count-own_places-own-requires
-count-own_places-own-requires t c =
-    let f = first c.requires c.loop-from.invariant c.loop-from-test.true in
-    read_own c.loop-from.from (first_kind _ f c.known_kind-kind.ensures) c.number_at.ensures.0 c.inside_start.ensures f c.counted-inside.ensures
+pub Record::counted-own_places-own-requires : goal.Record::counted-own_places-own-requires
+Record::counted-own_places-own-requires t c =
+    let f = first c.requires.counting (omega (arith, c.requires.ends)) in
+    read_own _ _ (first_kind _ f c.known_kind-kind.ensures) c.requires.ends c.inside_start.ensures f c.sums-inside.ensures
 
-pub count-own_groups-groups-requires : goal.count-own_groups-groups-requires
-count-own_groups-groups-requires t c =
-    let f = first c.requires c.loop-from.invariant c.loop-from-test.true in
-    read_groups c.loop-from.from (first_kind _ f c.known_kind-kind.ensures) c.number_at.ensures.0 c.inside_start.ensures f c.counted-inside.ensures
+pub Record::counted-own_groups-requires : goal.Record::counted-own_groups-requires
+Record::counted-own_groups-requires t c =
+    let f = first c.requires.counting (omega (arith, c.requires.ends)) in
+    read_groups _ _ (first_kind _ f c.known_kind-kind.ensures) c.requires.ends c.inside_start.ensures f c.sums-inside.ensures
 
-pub count-overflow_add-groups : goal.count-overflow_add-groups
-count-overflow_add-groups t c = omega (arith, (c.loop-from.invariant.rest c.requires).groups_left)
+pub Record::counted-returns : goal.Record::counted-returns
+Record::counted-returns t c =
+    let f = first c.requires.counting (omega (arith, c.requires.ends)) in
+    read_all _ _ (first_kind _ f c.known_kind-kind.ensures) c.requires.ends c.inside_start.ensures c.sums-inside.ensures c.own_places-own.ensures.0 c.min.ensures
+    c.own_groups.ensures.0
 
-pub count-loop-from-preserved : goal.count-loop-from-preserved
-count-loop-from-preserved t c =
-    let f = first c.requires c.loop-from.invariant c.loop-from-test.true in
-    adding_turn c.loop-from.from (first_kind _ f c.known_kind-kind.ensures) c.number_at.ensures.0 c.inside_start.ensures c.requires c.loop-from.invariant
-    c.loop-from-test.true c.counted-inside.ensures c.own_places-own.ensures.0 c.sum-places.ensures c.own_groups-groups.ensures.0
+pub Records::sums-sums-own-requires : goal.Records::sums-sums-own-requires
+Records::sums-sums-own-requires t c =
+    let s = c.loop-record.invariant.2 in
+    (omega (arith, summing_inside c.requires s c.in-Some.ensures.steps), summing_alone c.requires s c.in-Some.ensures.steps)
 
-pub count-returns : goal.count-returns
-count-returns t c = adding_all c.loop-from.invariant c.loop-from-test.false
+pub Records::sums-overflow_add-sums : goal.Records::sums-overflow_add-sums
+Records::sums-overflow_add-sums t c = omega (arith, summing_few c.requires c.loop-record.invariant.2 c.in-Some.ensures.steps c.sums-own.ensures)
 
-pub counted-returns : goal.counted-returns
-counted-returns t c = adding_all (adding_none c.requires) c.if-at-stop.false
+pub Records::sums-loop-record-preserved : goal.Records::sums-loop-record-preserved
+Records::sums-loop-record-preserved t c =
+    let more = summing_more c.requires c.loop-record.invariant.2 c.in-Some.ensures.steps c.sums-own.ensures c.sum.ensures in
+    (summing_left c.requires more, tt, more)
+
+pub Records::sums-returns : goal.Records::sums-returns
+Records::sums-returns t c = summing_all c.loop-record.invariant.2 c.in-None.ensures.steps
+
+pub Record::sums-returns-in-Nothing : goal.Record::sums-returns-in-Nothing
+Record::sums-returns-in-Nothing t c = place_counted c.requires.counting c.requires.ends c.known_kind.ensures c.in-Nothing.is
+
+pub Record::sums-returns-in-Empty : goal.Record::sums-returns-in-Empty
+Record::sums-returns-in-Empty t c = empty_counted c.requires.counting c.requires.ends c.known_kind.ensures c.in-Empty.is

@@ -1,16 +1,19 @@
--- `count` adds up records in a row, and has counted what stands inside each: the bytes between the two offsets fall.
+-- Records are added up one by one, and each by what stands inside it: the bytes between the two offsets fall.
 use Rattle.std.proofs.Common.{◌+◌, ◌-◌, ◌*◌}
-use Rattle.places.proofs.Adding.{Adding}
+use Rattle.places.proofs.Adding.{Summing}
 use Rattle.places.proofs.sums.+counting.Given as goal
 
-abbrev pub decreases-count : goal.decreases-count
-decreases-count l = 2 * (l.stop - l.at)
+abbrev pub decreases-Record::counted : goal.decreases-Record::counted
+decreases-Record::counted l = 2 * (l.self.end - l.self.at)
 
-abbrev pub decreases-counted : goal.decreases-counted
-decreases-counted l = 2 * (l.stop - l.at) + 1
+abbrev pub decreases-Record::sums : goal.decreases-Record::sums
+decreases-Record::sums l = 2 * (l.self.end - l.self.at) + 1
 
-abbrev pub invariant-count-loop-from : goal.invariant-count-loop-from
-invariant-count-loop-from l = Adding l.pattern l.at l.stop l.from l.places l.groups l.records
+abbrev pub decreases-Records::sums : goal.decreases-Records::sums
+decreases-Records::sums l = 2 * (l.self.stop - l.self.at) + 2
 
-abbrev pub decreases-count-loop-from : goal.decreases-count-loop-from
-decreases-count-loop-from l = l.stop - l.from
+abbrev pub invariant-Records::sums-loop-record : goal.invariant-Records::sums-loop-record
+invariant-Records::sums-loop-record l =
+    (goal.iterator-Records::sums-loop-record).can_next l.record-iterator
+    × (goal.iterator-Records::sums-loop-record).is_finite l.record-iterator
+    × Summing l.self l.record-iterator l.sums

@@ -1,10 +1,6 @@
--- `Printer::plain` meets its contract: after a failed write nothing is gathered, and each turn gathers some of the rest.
-use Rattle.std.proofs.Common.{length}
+-- `Printer::plain` meets its contract: after a failed write nothing is gathered.
 use Rattle.printer.specs.Gathered.{Gathered}
 use Rattle.printer.proofs.Printer.plain.Given as goal
 
-abbrev pub invariant-loop-rest : goal.invariant-loop-rest
-invariant-loop-rest l = Gathered l.fn.self l.self
-
-abbrev pub decreases-loop-rest : goal.decreases-loop-rest
-decreases-loop-rest l = length l.rest
+abbrev pub invariant-loop-b : goal.invariant-loop-b
+invariant-loop-b l = Gathered l.initial.self l.self

@@ -1,31 +1,16 @@
 -- Each answer cites the law for its kind of record, or for the step of a row.
-use Rattle.std.proofs.Common.{arith, refl, ◌∙◌, false, true}
+use Rattle.std.proofs.Common.{arith, refl, sym, ◌∙◌, false, true}
 use Rattle.places.proofs.Repeats.{inner_ask, passes_ask, repeat_passes}
-use Rattle.places.proofs.Records.{nothing_to_lay, empty_laid, stop_laid, set_ask, set_laid, group_one, group_two, group_some, group_laid, repeat_ask, repeat_laid, row_ask, row_laid, in_sequence, in_alternation, kind_found}
-use Rattle.places.proofs.Rows.{more_counting, more_few, more_inside, join_sum, join_ask, join_one, join_rest, row_header, along_all, along_one, along_ask, along_last}
+use Rattle.places.proofs.Records.{nothing_to_lay, empty_laid, stop_laid, set_ask, set_laid, captured_laid, group_two, group_some, group_ask, group_laid, repeat_ask, repeat_laid, row_ask, row_laid, in_sequence, in_alternation, kind_found}
+use Rattle.places.proofs.Rows.{more_counting, more_few, more_inside, join_sum, join_ask, join_one, join_rest, row_header, along_one, along_ask, along_last}
 use Rattle.places.proofs.walk.Part.+walking.Goals as goal
 
-pub group-overflow_sub-places : goal.group-overflow_sub-places
-group-overflow_sub-places t c = group_two c.requires.one c.requires.group
+pub captured-one-requires : goal.captured-one-requires
+captured-one-requires t c = (omega arith, c.requires.held)
 
-pub group-overflow_sub-inner : goal.group-overflow_sub-inner
-group-overflow_sub-inner t c = group_some c.requires.one c.requires.group
-
-pub group-headed-requires : goal.group-headed-requires
-group-headed-requires t c =
-    (omega arith, (group_one c.requires.one c.requires.group, record { no_set = omega arith; a_small = omega arith; n_small = omega arith }))
-
-pub group-put-requires : goal.group-put-requires
-group-put-requires t c =
-    record {
-      room = omega (arith, group_two c.requires.one c.requires.group, c.headed.ensures.1.kept.same_length);
-      next_fits = omega arith;
-      a_fits = omega arith;
-      n_fits = omega arith;
-    }
-
-pub group-returns : goal.group-returns
-group-returns t c = (c.put.ensures.0 ∙ c.headed.ensures.0, group_laid c.requires.one c.requires.group c.headed.ensures.1 c.put.ensures.1)
+pub captured-returns : goal.captured-returns
+captured-returns t c =
+    (c.put-2.ensures.0 ∙ c.one.ensures.0 ∙ c.put.ensures.0, captured_laid c.entered.ensures c.put.ensures.1 c.one.ensures.1 c.put-2.ensures.1)
 
 pub one-returns-then-self-eq0 : goal.one-returns-then-self-eq0
 one-returns-then-self-eq0 t c = (refl, nothing_to_lay c.if-self-eq0.true)
@@ -46,6 +31,18 @@ one-returns-in-Bytes t c =
 
 pub one-group-requires : goal.one-group-requires
 one-group-requires t c = (omega arith, (c.requires, kind_found c.known_kind.ensures c.in-Group.is c.requires))
+
+pub group-overflow_sub-held : goal.group-overflow_sub-held
+group-overflow_sub-held t c = group_two c.requires.one c.requires.group
+
+pub group-overflow_sub-held-2 : goal.group-overflow_sub-held-2
+group-overflow_sub-held-2 t c = group_some c.requires.one c.requires.group
+
+pub group-captured-requires : goal.group-captured-requires
+group-captured-requires t c = (omega arith, group_ask c.requires.one c.requires.group)
+
+pub group-returns : goal.group-returns
+group-returns t c = (c.captured.ensures.0, group_laid c.requires.one c.requires.group c.captured.ensures.1)
 
 pub one-row-requires : goal.one-row-requires
 one-row-requires t c = (omega arith, row_ask false (in_sequence (kind_found c.known_kind.ensures c.in-Sequence.is c.requires)) c.requires)
@@ -98,50 +95,47 @@ repeated-returns t c = (
 pub row-record_end-end-requires-clause-header : goal.row-record_end-end-requires-clause-header
 row-record_end-end-requires-clause-header t c = omega (arith, row_header c.requires)
 
-pub row-alone-own-requires-clause-counting : goal.row-alone-own-requires-clause-counting
-row-alone-own-requires-clause-counting t c = let i = c.loop-end.invariant.1 in more_counting i.end_is c.loop-end-test.true i.row
+pub row-sums-own-requires : goal.row-sums-own-requires
+row-sums-own-requires t c = let i = c.loop-end.invariant.1 in record { counting = more_counting i.end_is c.loop-end-test.true i.row; ends = sym i.end_is }
 
 pub row-overflow_sub-rest : goal.row-overflow_sub-rest
 row-overflow_sub-rest t c =
-    let i = c.loop-end.invariant.1 in omega (arith, join_sum i.end_is c.loop-end-test.true c.alone-own.ensures c.args.forks c.from-head.ensures i.row)
+    let i = c.loop-end.invariant.1 in omega (arith, join_sum i.end_is c.loop-end-test.true c.sums-own.ensures c.args.forks c.from-head.ensures i.row)
 
 pub row-overflow_sub-rest-in-loop-end : goal.row-overflow_sub-rest-in-loop-end
 row-overflow_sub-rest-in-loop-end t c =
-    let i = c.loop-end.invariant.1 in omega (arith, join_sum i.end_is c.loop-end-test.true c.alone-own.ensures c.args.forks c.from-head.ensures i.row)
+    let i = c.loop-end.invariant.1 in omega (arith, join_sum i.end_is c.loop-end-test.true c.sums-own.ensures c.args.forks c.from-head.ensures i.row)
 
 pub row-joined-next-requires : goal.row-joined-next-requires
 row-joined-next-requires t c =
-    let i = c.loop-end.invariant.1 in rw i.same_next (join_ask i.end_is c.loop-end-test.true c.alone-own.ensures c.args.forks c.from-head.ensures i.row)
+    let i = c.loop-end.invariant.1 in rw i.same_next (join_ask i.end_is c.loop-end-test.true c.sums-own.ensures c.args.forks c.from-head.ensures i.row)
 
 pub row-one-requires : goal.row-one-requires
 row-one-requires t c =
     let i = c.loop-end.invariant.1 in
     let j = rw i.same_next at c.joined-next.ensures.1 in (
       omega (arith, i.passed, i.end_is, row_header i.row),
-      join_one i.end_is c.loop-end-test.true c.alone-own.ensures c.args.forks _ _ c.from-head.ensures j i.row,
+      join_one i.end_is c.loop-end-test.true c.sums-own.ensures c.args.forks _ _ c.from-head.ensures j i.row,
     )
 
-pub row-overflow_add-left : goal.row-overflow_add-left
-row-overflow_add-left t c =
-    let i = c.loop-end.invariant.1 in omega (arith, more_few i.end_is c.loop-end-test.true c.alone-own.ensures i.row)
+pub row-overflow_add-left-in-loop-end : goal.row-overflow_add-left-in-loop-end
+row-overflow_add-left-in-loop-end t c =
+    let i = c.loop-end.invariant.1 in omega (arith, more_few i.end_is c.loop-end-test.true c.sums-own.ensures i.row)
 
 pub row-overflow_sub-left : goal.row-overflow_sub-left
-row-overflow_sub-left t c = let i = c.loop-end.invariant.1 in more_inside i.end_is c.loop-end-test.true c.alone-own.ensures i.row
+row-overflow_sub-left t c = let i = c.loop-end.invariant.1 in more_inside i.end_is c.loop-end-test.true c.sums-own.ensures i.row
 
 pub row-record_end-end-requires-in-loop-end-clause-header : goal.row-record_end-end-requires-in-loop-end-clause-header
 row-record_end-end-requires-in-loop-end-clause-header t c =
     let i = c.loop-end.invariant.1 in
-    omega (arith, row_header (join_rest i.end_is c.loop-end-test.true c.alone-own.ensures c.args.forks c.from-head.ensures i.row))
-
-pub row-loop-end-init : goal.row-loop-end-init
-row-loop-end-init t c = (refl, along_all c.args.table.now.numbers.now c.requires c.record_end-end.ensures)
+    omega (arith, row_header (join_rest i.end_is c.loop-end-test.true c.sums-own.ensures c.args.forks c.from-head.ensures i.row))
 
 pub row-loop-end-preserved : goal.row-loop-end-preserved
 row-loop-end-preserved t c =
     let i = c.loop-end.invariant.1 in
     let j = rw i.same_next at c.joined-next.ensures.1 in (
       c.one.ensures.0 ∙ c.joined-next.ensures.0 ∙ c.loop-end.invariant.0,
-      along_one i c.loop-end-test.true c.alone-own.ensures c.from-head.ensures j c.one.ensures.1 c.record_end-end-in-loop-end.ensures,
+      along_one i c.loop-end-test.true c.sums-own.ensures c.from-head.ensures j c.one.ensures.1 c.record_end-end-in-loop-end.ensures,
     )
 
 pub row-one-requires-2 : goal.row-one-requires-2
