@@ -11,7 +11,7 @@ use Rattle.paper.specs.Rows.{Rows}
 use Rattle.paper.specs.Machine.{at, Move, move_at, follow}
 use Rattle.paper.specs.Tables.{place_of}
 use Rattle.threads.specs.Threads.{stored, Carries}
-use Rattle.moves.specs.Shows.{AheadIn, Shows, Carried}
+use Rattle.moves.specs.Shows.{AheadIn, Shows}
 use Rattle.moves.specs.Moves.{Eats, Settling, Settles}
 use Rattle.moves.proofs.Moving.{move_eat, move_win, move_early, move_die}
 use Rattle.moves.proofs.Carrying.{shows_carry, carried_carry, shows_win, carried_win}

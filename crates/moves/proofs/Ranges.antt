@@ -7,7 +7,7 @@ use native.Mathlib.Omega.{arith}
 use native.Mathlib.Decide.{dec_lt}
 use borrow.Author.Tests.{lt-ltb, le-ltb}
 use lib.Dec.{leb}
-use lib.ListN.{length, get_or, take, drop, length-drop}
+use lib.ListN.{length, get_or, drop, length-drop}
 use lib.Seq.{drop-cons, length-take-le}
 use Rattle.std.specs.Prelude.{Option, Some, None, is_none, IsSome}
 use Rattle.std.specs.List.{list_any}

@@ -7,20 +7,19 @@ use mathlib.Core.List.{List, [], ◌∷◌}
 use mathlib.Core.Option as maybe
 use native.Mathlib.Omega.{arith}
 use native.Mathlib.Numerals.{add-one}
-use lib.ListN.{length, get_or, take, replicate, length-replicate, length-append}
-use lib.Seq.{length-take-le}
+use lib.ListN.{length, get_or, replicate, length-replicate, length-append}
 use Rattle.std.specs.Borrow.{Bor}
 use Rattle.std.specs.Option.{option_copied}
 use Rattle.std.specs.Prelude.{Option, Some, None, slice_get}
 use Rattle.std.specs.Slice.{IsItemAt}
 use Rattle.std.proofs.lemmas.Option.{slice_get_read, slice_get_past}
 use Rattle.paper.specs.Rows.{Rows, no_rows}
-use Rattle.paper.specs.Machine.{Place, Thread, at, State, fresh, visits, settle, run, Stopped}
+use Rattle.paper.specs.Machine.{Thread, at, fresh, visits, settle, run, Stopped}
 use Rattle.paper.specs.Tables.{decode}
 use Rattle.paper.specs.Once.{once}
 use Rattle.paper.proofs.machine.Once.{run_once}
 use Rattle.threads.specs.Threads.{place_in, rows_in, thread_in, threads, stored, Under}
-use Rattle.moves.specs.Shows.{AheadIn, Shows}
+use Rattle.moves.specs.Shows.{AheadIn}
 use Rattle.visit.specs.Wired.{Wired}
 use Rattle.threads.proofs.Stores.{stored_long, stored_place, stored_rows}
 use Rattle.visit.proofs.Loop.{rewire}

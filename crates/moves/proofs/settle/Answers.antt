@@ -1,5 +1,5 @@
 -- One way for each kind of end.
-use Rattle.std.proofs.Common.{◌≡◌, sym, ◌∙◌, length, rules}
+use Rattle.std.proofs.Common.{◌≡◌, length, rules}
 use Rattle.moves.proofs.Ending.{settles_eat, settles_win, settles_early, settles_die}
 use Rattle.moves.proofs.settle.Goals as goal
 use Rattle.moves.proofs.settle.Goals.{else-here-eq-ACCEPT-via-then-here-eq-ACCEPT+else-is_none, else-here-eq-ACCEPT-via-else-here-eq-ACCEPT}

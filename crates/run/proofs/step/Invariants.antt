@@ -1,5 +1,5 @@
 -- Each turn visits one thread and keeps `Walk`.
-use Rattle.std.proofs.Common.{◌≡◌, ◌*◌, ◌≤◌, length}
+use Rattle.std.proofs.Common.{◌*◌, ◌≤◌, length}
 use Rattle.visit.specs.Visits.{SameTables}
 use Rattle.run.proofs.Walk.{Walk}
 use Rattle.run.proofs.step.Given as goal

@@ -1,5 +1,5 @@
 -- Each turn copies one number of the rows.
-use Rattle.std.proofs.Common.{ℕ, ◌≡◌, ◌+◌, ◌-◌, ◌<◌, ◌≤◌, length, get_or}
+use Rattle.std.proofs.Common.{ℕ, ◌≡◌, ◌+◌, ◌<◌, length, get_or}
 use Rattle.threads.proofs.load.Given as goal
 
 abbrev pub invariant-loop-j : goal.invariant-loop-j

@@ -1,5 +1,5 @@
 -- Each turn copies one number of the rows behind the place.
-use Rattle.std.proofs.Common.{◌≡◌, ◌+◌, ◌-◌, ◌≤◌, length}
+use Rattle.std.proofs.Common.{◌≡◌, ◌+◌, length}
 use Rattle.std.proofs.Math.Seq.{paste}
 use Rattle.threads.proofs.store.Given as goal
 

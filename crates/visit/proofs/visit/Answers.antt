@@ -1,6 +1,6 @@
-use Rattle.std.proofs.Common.{◌≡◌, ◌≤◌, ◌+◌, false, length, sym, ◌∙◌, refl, arith, rules}
-use Rattle.visit.proofs.Loop.{Turn, turn_first, turn_cell, turn_floor, turn_numbers, turn_waiting, turn_last, turn_resume}
-use Rattle.visit.proofs.Loop.{turn_seen, fewer_marked, turn_countable, less_new, lead_slots, turn_lead, turn_end, settle_asked, turn_settle, turn_won, fork_asked, turn_fork}
+use Rattle.std.proofs.Common.{◌≡◌, ◌≤◌, ◌+◌, false, length, ◌∙◌, refl, arith, rules}
+use Rattle.visit.proofs.Loop.{Turn, turn_first, turn_floor, turn_waiting, turn_last, turn_resume}
+use Rattle.visit.proofs.Loop.{turn_seen, fewer_marked, turn_countable, less_new, lead_slots, turn_lead, turn_end, turn_settle, turn_won, fork_asked, turn_fork}
 use Rattle.threads.specs.Threads.{lacking}
 use Rattle.visit.proofs.visit.Goals as goal
 use Rattle.visit.proofs.visit.Goals.{Joined-mark, then-mark+else-here-eq-FORK+then-here-lt-SET+in_default, then-mark+else-here-eq-FORK+else-here-lt-SET+else-settle, else-mark}
