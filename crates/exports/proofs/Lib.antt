@@ -1,4 +1,3 @@
 -- What the proofs of the exported calls cite.
-pub mod Refusals
 pub mod OneReply
 pub mod BuildThenRun

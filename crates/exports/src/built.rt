@@ -4,7 +4,7 @@ ghost use Rattle.memory.specs.Memory.{memories, Runs};
 ghost use Rattle.exports.specs.Replies.{BuildReplies, RunReplies};
 
 use crate::limits::Lent;
-use telling::{tell_built, tell_found};
+use telling::tell;
 
 // Builds the machine of a pattern for search or for whole matches, and tells its places and depth and the pattern's groups.
 #[unsafe(no_mangle)]
@@ -16,13 +16,10 @@ pub extern "C" fn toj_build(
 ) -> u32
     ensures { BuildReplies pattern.now (ltb 0 search) machine.old machine.new out.old result out.new }
 {
-    if out.len() < 3 {
+    if out.len() < 3 || machine.len() < Lent::MACHINE {
         return Lent::TOO_SHORT;
     }
-    if machine.len() < Lent::MACHINE {
-        return Lent::TOO_SHORT;
-    }
-    tell_built(memory::build_in(pattern, 0 < search, machine), out)
+    tell(memory::build_in(pattern, 0 < search, machine), out)
 }
 
 // Runs a machine that was built for a pattern over a line, in four lent memories, and tells what it finds.
@@ -41,16 +38,13 @@ pub extern "C" fn toj_run(
     requires { Runs pattern.now machine.now }
     ensures { RunReplies pattern.now machine.now line.now (memories seen.old taken.old lists.old pending.old) (memories seen.new taken.new lists.new pending.new) table.old table.new out.old result out.new }
 {
-    if out.len() < 2 {
-        return Lent::TOO_SHORT;
-    }
-    if machine.len() < Lent::MACHINE {
+    if out.len() < 2 || machine.len() < Lent::MACHINE {
         return Lent::TOO_SHORT;
     }
     if memory::least_of_four(seen.len(), taken.len(), lists.len(), pending.len()) < Lent::SCRATCH {
         return Lent::TOO_SHORT;
     }
-    tell_found(
+    tell(
         memory::run_in(pattern, machine, line, seen, taken, lists, pending, table),
         out,
     )

@@ -2,7 +2,7 @@
 ghost use Rattle.exports.specs.Replies.{CheckReplies, MatchReplies, SearchReplies, ReplaceReplies, PieceReplies};
 
 use crate::limits::Lent;
-use telling::{tell_checked, tell_found, tell_piece, tell_replaced};
+use telling::tell;
 
 // Checks a pattern, and tells its places, depth and groups.
 #[unsafe(no_mangle)]
@@ -12,7 +12,7 @@ pub extern "C" fn toj_check(pattern: &[u8], out: &mut [u64]) -> u32
     if out.len() < 3 {
         return Lent::TOO_SHORT;
     }
-    tell_checked(pattern::check(pattern), out)
+    tell(pattern::check(pattern), out)
 }
 
 // Matches the whole line, and tells whether it matches and the steps.
@@ -23,7 +23,7 @@ pub extern "C" fn toj_match(pattern: &[u8], line: &[u8], table: &mut [u16], out:
     if out.len() < 2 {
         return Lent::TOO_SHORT;
     }
-    tell_found(matcher::whole_match(pattern, line, table), out)
+    tell(matcher::whole_match(pattern, line, table), out)
 }
 
 // Searches the line for the first match, and tells whether there is one and the steps.
@@ -34,7 +34,7 @@ pub extern "C" fn toj_search(pattern: &[u8], line: &[u8], table: &mut [u16], out
     if out.len() < 2 {
         return Lent::TOO_SHORT;
     }
-    tell_found(matcher::search(pattern, line, table), out)
+    tell(matcher::search(pattern, line, table), out)
 }
 
 // Replaces every match in the line by the template, and tells the output's length, the replacements and the steps.
@@ -51,7 +51,7 @@ pub extern "C" fn toj_replace(
     if out.len() < 3 {
         return Lent::TOO_SHORT;
     }
-    tell_replaced(replacer::replace_all(pattern, template, line, buffer), out)
+    tell(replacer::replace_all(pattern, template, line, buffer), out)
 }
 
 // Tells which bytes a template record puts in: their source, start and end.
@@ -68,5 +68,5 @@ pub extern "C" fn toj_piece(
     if out.len() < 3 {
         return Lent::TOO_SHORT;
     }
-    tell_piece(template::piece(template, line, table, number), out)
+    tell(template::piece(template, line, table, number), out)
 }

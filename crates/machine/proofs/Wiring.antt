@@ -23,49 +23,50 @@ use Rattle.machine.specs.declared.scratch.Scratch.{Scratch}
 use Rattle.machine.specs.Machine.{wrapped, first_group, Ready}
 use Rattle.machine.specs.Scratch.{lists_numbers, pending_numbers, Roomy}
 
-module _ (pattern : List ℕ) (deep : ℕ → ℕ) (places x : ℕ) where
-  -- what is known of the place that four numbers stand for
-  abbrev Known : ℕ → ℕ → ℕ → ℕ → Type 0
-  Known kind next a n = Static deep places row_count x (place_of pattern kind next a n)
+-- what is known of the place that four numbers stand for
+record Known (pattern : List ℕ) (deep : ℕ → ℕ) (places x kind next a n : ℕ) : Type 0 where
+  static : Static deep places row_count x (place_of pattern kind next a n)
+  forward : Forward x (place_of pattern kind next a n)
 
-  next_inside : (kind next a n : ℕ) → Known kind next a n → kind < stop_place → next < places
-  next_inside zero next a n s h = s.0.0
-  next_inside (suc zero) next a n s h = s.0.0
-  next_inside (suc (suc zero)) next a n s h = s.0.0
-  next_inside (suc (suc (suc zero))) next a n s h = s.0.0
-  next_inside (suc (suc (suc (suc zero)))) next a n s h = s.0.0
-  next_inside (suc (suc (suc (suc (suc zero))))) next a n s h = s
-  next_inside (suc (suc (suc (suc (suc (suc zero)))))) next a n s h = s
-  next_inside (suc (suc (suc (suc (suc (suc (suc zero))))))) next a n s h = s
-  next_inside (suc (suc (suc (suc (suc (suc (suc (suc kind)))))))) next a n s h = absurd (omega arith)
+module _ {pattern : List ℕ} {deep : ℕ → ℕ} {places x : ℕ} where
+  next_inside : {kind next a n : ℕ} → Known pattern deep places x kind next a n → kind < stop_place → next < places
+  next_inside {kind = zero} s h = s.static.0.0
+  next_inside {kind = suc zero} s h = s.static.0.0
+  next_inside {kind = suc (suc zero)} s h = s.static.0.0
+  next_inside {kind = suc (suc (suc zero))} s h = s.static.0.0
+  next_inside {kind = suc (suc (suc (suc zero)))} s h = s.static.0.0
+  next_inside {kind = suc (suc (suc (suc (suc zero))))} s h = s.static
+  next_inside {kind = suc (suc (suc (suc (suc (suc zero)))))} s h = s.static
+  next_inside {kind = suc (suc (suc (suc (suc (suc (suc zero))))))} s h = s.static
+  next_inside {kind = suc (suc (suc (suc (suc (suc (suc (suc kind)))))))} s h = absurd (omega arith)
 
-  next_deep : (kind next a n : ℕ) → Known kind next a n → kind < begin_optional_place → deep x ≤ deep next
-  next_deep zero next a n s h = s.0.1
-  next_deep (suc zero) next a n s h = s.0.1
-  next_deep (suc (suc zero)) next a n s h = s.0.1
-  next_deep (suc (suc (suc zero))) next a n s h = s.0.1
-  next_deep (suc (suc (suc (suc kind)))) next a n s h = absurd (omega arith)
+  next_deep : {kind next a n : ℕ} → Known pattern deep places x kind next a n → kind < begin_optional_place → deep x ≤ deep next
+  next_deep {kind = zero} s h = s.static.0.1
+  next_deep {kind = suc zero} s h = s.static.0.1
+  next_deep {kind = suc (suc zero)} s h = s.static.0.1
+  next_deep {kind = suc (suc (suc zero))} s h = s.static.0.1
+  next_deep {kind = suc (suc (suc (suc kind)))} s h = absurd (omega arith)
+
+  -- it leads ahead, but for an end
+  next_ahead : {kind next a n : ℕ} → Known pattern deep places x kind next a n → kind < end_place → x < next
+  next_ahead {kind = zero} s h = s.forward.0
+  next_ahead {kind = suc zero} s h = s.forward
+  next_ahead {kind = suc (suc zero)} s h = s.forward
+  next_ahead {kind = suc (suc (suc zero))} s h = s.forward
+  next_ahead {kind = suc (suc (suc (suc zero)))} s h = s.forward
+  next_ahead {kind = suc (suc (suc (suc (suc kind))))} s h = absurd (omega arith)
 
   -- the place of a known kind
-  of_kind_law : (kind next a n k : ℕ) → Known kind next a n → kind ≡ k → Known k next a n
-  of_kind_law kind next a n k s e = subst (λ (j : ℕ). Known j next a n) e s
+  as_kind : {kind next a n : ℕ} (k : ℕ) → Known pattern deep places x kind next a n → kind ≡ k → Known pattern deep places x k next a n
+  as_kind {next = next} {a} {n} k s e = subst (λ (j : ℕ). Known pattern deep places x j next a n) e s
 
-  slots_known : (kind next a n : ℕ) → Known kind next a n → Slots kind a n
-  slots_known kind next a n s = record {
-    opens = λ e. (of_kind_law kind next a n 1 s e).1;
-    closes = λ e. (of_kind_law kind next a n 2 s e).1;
-    begins = λ e. (of_kind_law kind next a n 3 s e).1;
-    begins_optional = λ e. (of_kind_law kind next a n 4 s e).1;
+  slots_known : {kind next a n : ℕ} → Known pattern deep places x kind next a n → Slots kind a n
+  slots_known s = record {
+    opens = λ e. (as_kind 1 s e).static.1;
+    closes = λ e. (as_kind 2 s e).static.1;
+    begins = λ e. (as_kind 3 s e).static.1;
+    begins_optional = λ e. (as_kind 4 s e).static.1;
   }
-
--- a place that four numbers stand for leads ahead, but for an end
-next_ahead : (pattern : List ℕ) (x kind next a n : ℕ) → Forward x (place_of pattern kind next a n) → kind < end_place → x < next
-next_ahead pattern x zero next a n f h = f.0
-next_ahead pattern x (suc zero) next a n f h = f
-next_ahead pattern x (suc (suc zero)) next a n f h = f
-next_ahead pattern x (suc (suc (suc zero))) next a n f h = f
-next_ahead pattern x (suc (suc (suc (suc zero)))) next a n f h = f
-next_ahead pattern x (suc (suc (suc (suc (suc kind))))) next a n f h = absurd (omega arith)
 
 -- a level up to the depth of a place, times the places, and the place stay below all pairs
 cell_room : (d most places x : ℕ) → d ≤ most → x < places → d * places + x < places * (most + 1)
@@ -82,29 +83,26 @@ wired code pattern e first rows few long decoded readable =
       few = few;
       long = long;
       room = λ x h. cell_room (deep_at e first x) (depth e) (all_places e) x (deep_most e first x) h;
-      follows = λ x h k. next_inside pattern (deep_at e first) (all_places e) x (place_kind_at code x) (place_next_at code x) (place_first_at code x) (place_many_at code x) (known x h) k;
-      forks = λ x h k. (kind_at x h 0 k).1.0;
-      deeper = λ x h k. next_deep pattern (deep_at e first) (all_places e) x (place_kind_at code x) (place_next_at code x) (place_first_at code x) (place_many_at code x) (known x h) k;
-      deeper_other = λ x h k. (kind_at x h 0 k).1.1;
-      raised = λ x h k. (kind_at x h 4 k).0.1;
-      ahead = λ x h k. next_ahead pattern x (place_kind_at code x) (place_next_at code x) (place_first_at code x) (place_many_at code x) (forward x h) k;
-      ahead_other = λ x h k. (subst (λ (j : ℕ). Forward x (place_of pattern j (place_next_at code x) (place_first_at code x) (place_many_at code x))) k (forward x h)).1;
-      slots = λ x h. slots_known pattern (deep_at e first) (all_places e) x (place_kind_at code x) (place_next_at code x) (place_first_at code x) (place_many_at code x) (known x h);
-      ranges = λ x h k. (readable x h).pairs_end k;
+      follows = λ x h. next_inside (known x h);
+      forks = λ x h k. (as_kind 0 (known x h) k).static.1.0;
+      deeper = λ x h. next_deep (known x h);
+      deeper_other = λ x h k. (as_kind 0 (known x h) k).static.1.1;
+      raised = λ x h k. (as_kind 4 (known x h) k).static.0.1;
+      ahead = λ x h. next_ahead (known x h);
+      ahead_other = λ x h k. (as_kind 0 (known x h) k).forward.1;
+      slots = λ x h. slots_known (known x h);
+      ranges = λ x h. (readable x h).pairs_end;
     }
   where
     listed : (x : ℕ) → x < all_places e → get_or (places_of e first) x stop ≡ place_at code pattern x
     listed x h = ap (λ (places : List Place). get_or places x stop) (sym decoded) ∙ decode_at code pattern (all_places e) x h
 
-    known : (x : ℕ) → x < all_places e → Static (deep_at e first) (all_places e) row_count x (place_at code pattern x)
-    known x h = subst (Static (deep_at e first) (all_places e) row_count x) (listed x h) (places_static e first row_count rows x h)
-
-    forward : (x : ℕ) → x < all_places e → Forward x (place_at code pattern x)
-    forward x h = subst (Forward x) (listed x h) (places_forward e first x)
-
-    kind_at : (x : ℕ) → x < all_places e → (k : ℕ) → place_kind_at code x ≡ k
-        → Known pattern (deep_at e first) (all_places e) x k (place_next_at code x) (place_first_at code x) (place_many_at code x)
-    kind_at x h k = of_kind_law pattern (deep_at e first) (all_places e) x (place_kind_at code x) (place_next_at code x) (place_first_at code x) (place_many_at code x) k (known x h)
+    known : (x : ℕ) → x < all_places e
+        → Known pattern (deep_at e first) (all_places e) x (place_kind_at code x) (place_next_at code x) (place_first_at code x) (place_many_at code x)
+    known x h = record {
+      static = subst (Static (deep_at e first) (all_places e) row_count x) (listed x h) (places_static e first row_count rows x h);
+      forward = subst (Forward x) (listed x h) (places_forward e first x);
+    }
 
 -- the tree that is built is within the limits
 few_rows : (searches : Bool) (e : Pattern) → Lawful e → first_group searches + groups (wrapped searches e) ≤ row_count

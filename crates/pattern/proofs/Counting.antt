@@ -4,7 +4,7 @@ use Prim.Native.Nat.{ℕ, zero, suc, ◌+◌, ◌-◌, ◌*◌, ◌≤◌, ◌<�
 use mathlib.Core.Path.{◌≡◌, refl, ap, sym, ◌∙◌}
 use mathlib.Core.Bool.{Bool, true, false}
 use mathlib.Core.Logic.{◌⊎◌, inl, inr, ⊎_elim}
-use native.Mathlib.Nat.{zero-mul, one-mul, suc-mul, mul-le-mul, min-eq_left, eq-zero-or-pos}
+use native.Mathlib.Nat.{zero-mul, one-mul, suc-mul, min-eq_left, eq-zero-or-pos}
 use native.Mathlib.Omega.{arith}
 use lib.Dec.{ltb}
 use borrow.Author.Tests.{lt-ltb, le-ltb, ltb-true, ltb-false}
@@ -66,10 +66,6 @@ repeat_passes least no_end e = ap (λ (n : ℕ). least * (1 + e) + n) (one-mul (
 pub optional_passes_law : (least : ℕ) (upper : Upper) → ltb 0 (optional_passes least upper) ≡ has_optional least upper
 optional_passes_law least (up_to most) = ⊎_elim (λ lt. lt-ltb 0 (most - least) (omega arith) ∙ sym (lt-ltb least most lt)) (λ le. le-ltb 0 (most - least) (omega arith) ∙ sym (le-ltb least most le)) (compared least most)
 optional_passes_law least no_end = refl
-
--- no product in the count of a repeat overflows
-pub pass_bound : (n k e : ℕ) → n ≤ repeat_count → k ≤ 3 → e ≤ pattern_places → n * (k + e) ≤ repeat_count * (3 + pattern_places)
-pass_bound n k e few small le = let h : k + e ≤ 3 + pattern_places = omega arith in mul-le-mul few h
 
 -- ---- the three numbers of a repeat
 

@@ -3,20 +3,17 @@ use Prim.Native.Nat.{ℕ, zero, suc, ◌+◌, ◌≤◌, ◌<◌, max}
 use mathlib.Core.Path.{◌≡◌, refl, ap, sym, ◌∙◌}
 use mathlib.Core.List.{List, [], ◌∷◌, ◌++◌}
 use native.Mathlib.Omega.{arith}
-use lib.ListN.{length}
-use borrow.Author.Tests.{lt-ltb, le-ltb}
-use Rattle.paper.specs.Limits.{pattern_groups, pattern_bytes}
+use lib.ListN.{length, length-append}
+use Rattle.std.proofs.Math.Seq.{append_snoc}
+use borrow.Author.Tests.{lt-ltb}
+use Rattle.paper.specs.Limits.{pattern_groups}
 use Rattle.paper.specs.Refusal.{Checked, refused, accepted, ◌>>=◌}
 use Rattle.paper.specs.Pattern.{Pattern, places, depth, groups}
 use Rattle.paper.specs.Check.{Walk, body_length, body_start, body_end, walk_all}
 use Rattle.pattern.specs.declared.walk.Walked.{Walked}
-use Rattle.pattern.specs.Walk.{capped, places_in, depth_in, groups_in, members_of, Counts, CountsAll}
+use Rattle.pattern.specs.Walk.{capped, places_in, depth_in, groups_in, members_of, Counts}
 
 -- the sums over the records of a list and one more
-length_more : (es : List Pattern) (e : Pattern) → length (es ++ e ∷ []) ≡ length es + 1
-length_more [] e = refl
-length_more (a ∷ es) e = omega (arith, length_more es e)
-
 places_more : (es : List Pattern) (e : Pattern) → places_in (es ++ e ∷ []) ≡ places_in es + places e
 places_more [] e = omega arith
 places_more (a ∷ es) e = omega (arith, places_more es e)
@@ -37,18 +34,10 @@ behind_none : (found : Checked (List Pattern)) → behind [] found ≡ found
 behind_none (refused number place) = refl
 behind_none (accepted es) = refl
 
-one_behind : (done : List Pattern) (e : Pattern) (es : List Pattern) → (done ++ e ∷ []) ++ es ≡ done ++ (e ∷ es)
-one_behind [] e es = refl
-one_behind (a ∷ done) e es = ap (λ (rest : List Pattern). a ∷ rest) (one_behind done e es)
-
-none_behind : (done : List Pattern) → done ++ [] ≡ done
-none_behind [] = refl
-none_behind (a ∷ done) = ap (λ (rest : List Pattern). a ∷ rest) (none_behind done)
-
 behind_one : (done : List Pattern) (e : Pattern) (found : Checked (List Pattern))
     → behind (done ++ e ∷ []) found ≡ behind done (found >>= λ es. accepted (e ∷ es))
 behind_one done e (refused number place) = refl
-behind_one done e (accepted es) = ap accepted (one_behind done e es)
+behind_one done e (accepted es) = ap accepted (append_snoc done e es)
 
 -- where the loop stands: at `next`, with what it has counted; `whole` is what the holder holds
 pub record Left (walk : Walk) (bs : List ℕ) (stop levels before : ℕ) (whole : Checked (List Pattern)) (next count counted deep total : ℕ) : Type 0 where
@@ -85,23 +74,6 @@ begun {start} {stop} walk bs at levels before starts ends few = record {
 
 module _ {walk : Walk} {bs : List ℕ} {stop levels before : ℕ} {whole : Checked (List Pattern)} {next count counted deep total : ℕ}
     (l : Left walk bs stop levels before whole next count counted deep total) where
-  -- none is left
-  pub none_more : stop ≤ next → stop ≤ pattern_bytes → CountsAll levels before whole (record { count = count; places = counted; depth = deep; groups = total })
-  none_more over few = record {
-    trees = l.done;
-    are = sym l.same ∙ ended l.turns;
-    count_is = l.count_is;
-    places_are = l.places_are;
-    depth_is = l.depth_is;
-    groups_are = l.groups_are;
-    few_members = omega (arith, l.few_members, l.before_stop);
-    few_levels = l.few_levels;
-    few_groups = l.few_groups;
-  } where
-    ended : (k : ℕ) → behind l.done (walk_all k walk bs next stop total) ≡ accepted l.done
-    ended zero = ap accepted (none_behind l.done)
-    ended (suc k) = rw (le-ltb next stop over) (ap accepted (none_behind l.done))
-
   -- a fault in the next one
   pub bad_one : {number place : ℕ} → next < stop → walk next stop total ≡ refused number place → whole ≡ refused number place
   bad_one {number} {place} more q = sym l.same ∙ hit l.turns l.enough where
@@ -123,7 +95,7 @@ module _ {walk : Walk} {bs : List ℕ} {stop levels before : ℕ} {whole : Check
       same = rw (t.ends, t.groups_are)
           (behind_one l.done t.tree (walk_all k walk bs (body_end bs next) stop (total + groups t.tree)) ∙ rw (lt-ltb next stop more, t.is) at same);
       before_stop = t.before_stop;
-      count_is = omega (arith, l.count_is, length_more l.done t.tree);
+      count_is = omega (arith, l.count_is, length-append l.done (t.tree ∷ []));
       places_are = omega (arith, l.places_are, t.places_are, places_more l.done t.tree);
       depth_is = omega (arith, l.depth_is, t.depth_is, depth_more l.done t.tree);
       groups_are = omega (arith, l.groups_are, t.groups_are, groups_more l.done t.tree);

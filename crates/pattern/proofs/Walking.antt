@@ -1,29 +1,23 @@
 -- How the walk's answers are put together: from what is found inside a record to what is found in it, one law a way out of each function.
 use mir.Val.{bool_byte}
-use Prim.Native.Nat.{ℕ, zero, suc, ◌+◌, ◌-◌, ◌≤◌, ◌<◌, max}
+use Prim.Native.Nat.{ℕ, zero, suc, ◌+◌, ◌-◌, ◌≤◌, max}
 use mathlib.Core.Path.{◌≡◌, refl, ap, sym, ◌∙◌}
 use mathlib.Core.Bool.{Bool, true, false, cond}
 use mathlib.Core.List.{List, [], ◌∷◌}
-use mathlib.Core.Logic.{⊎_elim}
-use native.Mathlib.Nat.{eq-zero-or-pos}
 use native.Mathlib.Omega.{arith}
-use lib.Dec.{ltb, eqb}
+use lib.Dec.{ltb}
 use lib.ListN.{length}
-use borrow.Author.Tests.{le-leb, lt-leb, lt-ltb, le-ltb, eq-eqb, ne_eqb}
+use borrow.Author.Tests.{le-leb}
 use Rattle.std.specs.Prelude.{Result, Ok, Err}
-use Rattle.paper.specs.Limits.{pattern_groups, pattern_places}
-use Rattle.paper.specs.Refusal.{Checked, refused, accepted, ◌>>=◌, ◌>>◌, holds, broken_record, unknown_kind, too_deep, too_many_groups, repeat_wrong}
+use Rattle.paper.specs.Refusal.{Checked, accepted, ◌>>=◌, ◌>>◌, holds, repeat_wrong}
 use Rattle.paper.specs.Pattern.{Pattern, Members, places, depth, groups, count, places_of_all, depth_of_all, groups_of_all}
-use Rattle.paper.specs.Pattern.Pattern.{bytes, group, sequence, alternation, repeat}
+use Rattle.paper.specs.Pattern.Pattern.{sequence, alternation, repeat}
 use Rattle.paper.specs.Layout.{Kind, nothing_kind, empty_kind, bytes_kind, group_kind, sequence_kind, alternation_kind, repeat_kind, kinds, kind_number}
-use Rattle.paper.specs.Check.{Walk, number_at, body_length, body_start, body_end, kind_at, kind_among, bare, byte_set, part, set_right, ranges_of, body, single, members_from, at_least_two, walk_record, repeat_numbers_right, upper_of, mode_of, repeat_head}
-use Rattle.pattern.specs.declared.Refusal.{Refusal}
-use Rattle.pattern.specs.declared.Refusal.TheVariants.{BrokenRecord, SetWrong}
+use Rattle.paper.specs.Check.{Walk, number_at, body_length, body_start, body_end, kind_at, kind_among, body, single, members_from, at_least_two, walk_record, repeat_numbers_right, upper_of, mode_of, repeat_head}
 use Rattle.pattern.specs.declared.Refused.{Refused}
 use Rattle.pattern.specs.declared.walk.Walked.{Walked}
 use Rattle.pattern.specs.declared.walk.Members as declared
-use Rattle.pattern.specs.Refusals.{number_of}
-use Rattle.pattern.specs.Walk.{capped, optional_passes, pass_places, places_in, depth_in, groups_in, leaf_of, members_of, several_found, Counts, CountsAll, Tells}
+use Rattle.pattern.specs.Walk.{capped, optional_passes, pass_places, places_in, depth_in, groups_in, members_of, several_found, Counts, CountsAll, Tells}
 use Rattle.pattern.proofs.Counting.{capped_add, capped_passes, repeat_passes, optional_passes_law}
 
 -- an answer for the same thing found, with more room
@@ -45,20 +39,6 @@ passed_on before (Ok w) s l q f t = record {
 -- ---- a record's header
 
 module _ (bs : List ℕ) (at stop before : ℕ) where
-  -- a record that its holder cuts off is 2
-  pub cut_off : (levels : ℕ) → stop < body_end bs at → walk_record levels bs at stop before ≡ refused broken_record at
-  cut_off zero lt = rw (lt-leb (body_end bs at) stop lt)
-  cut_off (suc left) lt = rw (lt-leb (body_end bs at) stop lt)
-
-  no_kind : (number : ℕ) → kind_number repeat_kind < number → kind_among kinds number at ≡ refused unknown_kind at
-  no_kind number lt =
-      simp (ne_eqb number 0 (λ e. omega arith), ne_eqb number 1 (λ e. omega arith), ne_eqb number 2 (λ e. omega arith), ne_eqb number 3 (λ e. omega arith), ne_eqb number 4 (λ e. omega arith), ne_eqb number 5 (λ e. omega arith), ne_eqb number 6 (λ e. omega arith))
-
-  -- a kind above the last is 3
-  pub kind_unknown : (levels : ℕ) → body_end bs at ≤ stop → kind_number repeat_kind < kind_at bs at → walk_record levels bs at stop before ≡ refused unknown_kind at
-  kind_unknown zero le lt = rw (le-leb (body_end bs at) stop le, no_kind (kind_at bs at) lt)
-  kind_unknown (suc left) le lt = rw (le-leb (body_end bs at) stop le, no_kind (kind_at bs at) lt)
-
   -- a kind is found by its number
   among : (kind : Kind) (number : ℕ) → kind_number kind ≡ number → kind_among kinds number at ≡ accepted kind
   among nothing_kind number e = rw (sym e)
@@ -69,10 +49,6 @@ module _ (bs : List ℕ) (at stop before : ℕ) where
   among alternation_kind number e = rw (sym e)
   among repeat_kind number e = rw (sym e)
 
-  -- with no level left a known kind is 6
-  pub no_level : (levels : ℕ) (kind : Kind) → levels ≡ 0 → body_end bs at ≤ stop → kind_number kind ≡ kind_at bs at → walk_record levels bs at stop before ≡ refused too_deep at
-  no_level levels kind z le known = rw (z, le-leb (body_end bs at) stop le, among kind (kind_at bs at) known)
-
   -- with a level left the walk goes on in the body
   pub one_level : (levels : ℕ) (kind : Kind) → (levels ≡ 0 → ⊥) → body_end bs at ≤ stop → kind_number kind ≡ kind_at bs at
       → body kind (walk_record (levels - 1) bs) bs at before ≡ walk_record levels bs at stop before
@@ -81,82 +57,9 @@ module _ (bs : List ℕ) (at stop before : ℕ) where
       let e : suc left - 1 ≡ left = omega arith in
       rw (e, le-leb (body_end bs at) stop le, among kind (kind_at bs at) known)
 
--- ---- records that hold no other
-
--- the answer for a body that is right or wrong as a whole
-pub leaf_tells : (end before : ℕ) (right : Bool) (refusal : Refusal) (at levels : ℕ) (e : Pattern) → places e ≤ pattern_places → depth e ≡ 0 → groups e ≡ 0
-    → before ≤ pattern_groups → Tells end levels end before (holds right (number_of refusal) at >> accepted e) (leaf_of right refusal at end (places e) before)
-leaf_tells end before true refusal at levels e p d g few = record {
-  tree = e;
-  is = refl;
-  ends = refl;
-  places_are = omega arith;
-  depth_is = sym d;
-  groups_are = omega arith;
-  before_stop = omega arith;
-  few_levels = omega arith;
-  few_groups = few;
-}
-leaf_tells end before false refusal at levels e p d g few = refl
-
--- a body is empty where it ends as it starts
-pub no_body : (start n : ℕ) → eqb start (start + n) ≡ eqb n 0
-no_body start n = ⊎_elim
-    (λ z. eq-eqb start (start + n) (omega arith) ∙ sym (eq-eqb n 0 z))
-    (λ pos. ne_eqb start (start + n) (λ e. omega arith) ∙ sym (ne_eqb n 0 (λ e. omega arith)))
-    (eq-zero-or-pos n)
-
--- kinds 0 and 1
-pub bare_tells : {start end before : ℕ} (bs : List ℕ) (at levels : ℕ) (e : Pattern) → start ≡ body_start at → end ≡ body_end bs at
-    → places e ≤ pattern_places → depth e ≡ 0 → groups e ≡ 0 → before ≤ pattern_groups
-    → Tells end levels end before (bare e bs at) (leaf_of (eqb start end) BrokenRecord at end (places e) before)
-bare_tells {start} {end} {before} bs at levels e starts ends p d g few =
-    let none : eqb start end ≡ eqb (body_length bs at) 0 = rw (starts, ends) (no_body (body_start at) (body_length bs at)) in
-    rw none (leaf_tells end before (eqb (body_length bs at) 0) BrokenRecord at levels e p d g few)
-
--- kind 2
-pub set_tells : {start end before : ℕ} (bs : List ℕ) (at levels : ℕ) → start ≡ body_start at → end ≡ body_end bs at → before ≤ pattern_groups
-    → Tells end levels end before (byte_set bs at) (leaf_of (set_right (part bs start end)) SetWrong at end 1 before)
-set_tells {start} {end} {before} bs at levels starts ends few =
-    let whole = part bs (body_start at) (body_end bs at) in
-    rw (starts, ends) (leaf_tells (body_end bs at) before (set_right whole) SetWrong at levels (bytes (ranges_of whole)) (omega arith) refl refl few)
-
--- ---- a group
-
-module _ (walk : Walk) (bs : List ℕ) (at end left before : ℕ) where
-  -- after nine groups a group is 7
-  pub tenth_group : pattern_groups ≤ before → body group_kind walk bs at before ≡ refused too_many_groups at
-  tenth_group many = rw (le-ltb before pattern_groups many)
-
-  module _ {start : ℕ} (few : before < pattern_groups) (starts : start ≡ body_start at) where
-    -- a fault inside is the fault
-    pub group_fault : {number place : ℕ} → single walk bs at start (before + 1) ≡ refused number place → body group_kind walk bs at before ≡ refused number place
-    group_fault q =
-        let q' : single walk bs at (body_start at) (before + 1) ≡ refused _ _ = rw starts at q in
-        rw (lt-ltb before pattern_groups few, q')
-
-    -- a group's answer out of that of the one record inside
-    pub group_counts : {w : Walked} → Counts end left end (before + 1) (single walk bs at start (before + 1)) w
-        → Counts end (left + 1) end before (body group_kind walk bs at before) (record w { places = capped (w.places + 2) })
-    group_counts t = record {
-      tree = group t.tree;
-      is = let q : single walk bs at (body_start at) (before + 1) ≡ accepted t.tree = rw starts at t.is in rw (lt-ltb before pattern_groups few, q);
-      ends = t.ends;
-      places_are = omega (arith, t.places_are);
-      depth_is = t.depth_is;
-      groups_are = omega (arith, t.groups_are);
-      before_stop = t.before_stop;
-      few_levels = omega (arith, t.few_levels);
-      few_groups = t.few_groups;
-    }
-
 -- ---- a repeat
 
 module _ (walk : Walk) (bs : List ℕ) (at end left before : ℕ) where
-  -- a body that has not its three numbers is 2
-  pub short_repeat : body_length bs at < repeat_head → body repeat_kind walk bs at before ≡ refused broken_record at
-  short_repeat lt = rw (lt-leb repeat_head (body_length bs at) lt)
-
   module _ {start least most mode : ℕ} (starts : start ≡ body_start at)
       (the-least : least ≡ number_at bs start) (the-most : most ≡ number_at bs (start + 2)) (the-mode : mode ≡ number_at bs (start + 4))
       (long : repeat_head ≤ body_length bs at) where
@@ -166,15 +69,6 @@ module _ (walk : Walk) (bs : List ℕ) (at end left before : ℕ) where
         let q : repeat_numbers_right (number_at bs (body_start at)) (number_at bs (body_start at + 2)) (number_at bs (body_start at + 4)) ≡ right =
         rw (the-least, the-most, the-mode, starts) at e in
         rw (the-least, the-most, the-mode, starts, le-leb repeat_head (body_length bs at) long, q)
-
-    -- wrong numbers are 5
-    pub wrong_numbers : repeat_numbers_right least most mode ≡ false → body repeat_kind walk bs at before ≡ refused repeat_wrong at
-    wrong_numbers e = numbers_judged false e
-
-    -- a fault inside is the fault
-    pub repeat_fault : {number place : ℕ} → repeat_numbers_right least most mode ≡ true → single walk bs at (start + repeat_head) before ≡ refused number place
-        → body repeat_kind walk bs at before ≡ refused number place
-    repeat_fault right q = numbers_judged true right ∙ rw q
 
     -- a repeat's answer out of that of the one record inside
     pub repeat_counts : {optional more : ℕ} {w : Walked} → repeat_numbers_right least most mode ≡ true → optional ≡ optional_passes least (upper_of most)
@@ -204,41 +98,6 @@ module _ (walk : Walk) (bs : List ℕ) (at end left before : ℕ) where
         one_at_most : (b : Bool) → w.depth ≤ left → w.depth + bool_byte b ≤ left + 1
         one_at_most true h = omega arith
         one_at_most false h = omega arith
-
--- ---- one record inside
-
-module _ (walk : Walk) (bs : List ℕ) (at from end before : ℕ) (ends : end ≡ body_end bs at) where
-  -- a fault inside is the fault
-  pub inner_fault : {number place : ℕ} → walk from end before ≡ refused number place → single walk bs at from before ≡ refused number place
-  inner_fault q = let q' : walk from (body_end bs at) before ≡ refused _ _ = rw ends at q in rw q'
-
-  -- bytes left over are 2 at the holder
-  pub left_over : {e : Pattern} → walk from end before ≡ accepted e → body_end bs from < end → single walk bs at from before ≡ refused broken_record at
-  left_over {e} q lt =
-      let q' : walk from (body_end bs at) before ≡ accepted e = rw ends at q in
-      let lt' : body_end bs from < body_end bs at = rw ends at lt in
-      rw (q', ne_eqb (body_end bs from) (body_end bs at) (λ e. omega arith))
-
-  -- a record that fills its holder is taken
-  pub all_used : {e : Pattern} → walk from end before ≡ accepted e → body_end bs from ≡ end → single walk bs at from before ≡ accepted e
-  all_used {e} q eq =
-      let q' : walk from (body_end bs at) before ≡ accepted e = rw ends at q in
-      rw (q', eq-eqb (body_end bs from) (body_end bs at) (eq ∙ ends))
-
--- the answer of the one record inside, where it ends with its holder
-pub single_counts : (walk : Walk) (bs : List ℕ) (at from end left before : ℕ) {w : Walked} → end ≡ body_end bs at
-    → Counts end left (body_end bs from) before (walk from end before) w → end ≤ w.end → Counts end left end before (single walk bs at from before) w
-single_counts walk bs at from end left before ends t done = record {
-  tree = t.tree;
-  is = all_used walk bs at from end before ends t.is (omega (arith, t.ends, t.before_stop));
-  ends = omega (arith, t.before_stop);
-  places_are = t.places_are;
-  depth_is = t.depth_is;
-  groups_are = t.groups_are;
-  before_stop = t.before_stop;
-  few_levels = t.few_levels;
-  few_groups = t.few_groups;
-}
 
 -- ---- several records inside
 
@@ -270,22 +129,7 @@ several_law true walk bs at before = refl
 several_law false walk bs at before = refl
 
 module _ (forks : Bool) (walk : Walk) (bs : List ℕ) (at end left before : ℕ) where
-  -- a fault inside is the fault
-  pub several_fault : {number place : ℕ} → members_of walk bs at before ≡ refused number place → several_found forks walk bs at before ≡ refused number place
-  several_fault q = several_law forks walk bs at before ∙ rw q
-
   module _ {m : declared.Members} (t : CountsAll left before (members_of walk bs at before) m) where
-    judged : several_found forks walk bs at before ≡ (at_least_two t.trees at >>= λ ms. accepted (joined forks ms))
-    judged = several_law forks walk bs at before ∙ rw t.are
-
-    -- fewer than two are 2 at the holder
-    pub too_few : m.count < 2 → several_found forks walk bs at before ≡ refused broken_record at
-    too_few few = judged ∙ look t.trees t.count_is where
-      look : (es : List Pattern) → m.count ≡ length es → (at_least_two es at >>= λ ms. accepted (joined forks ms)) ≡ refused broken_record at
-      look [] is = refl
-      look (a ∷ []) is = refl
-      look (a ∷ b ∷ rest) is = absurd (omega arith)
-
     -- a sequence's or an alternation's answer out of that of the records inside
     pub several_counts : {forked : ℕ} → 2 ≤ m.count → forked ≡ cond forks (m.count - 1) 0
         → Counts end (left + 1) end before (several_found forks walk bs at before)

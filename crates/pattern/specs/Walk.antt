@@ -1,8 +1,8 @@
 -- What the walk's functions answer, in terms of what `paper`'s walk finds: the tree itself is never built, only its numbers.
-use Rattle.std.specs.Prelude.{ℕ, ◌+◌, ◌-◌, ◌*◌, ◌≤◌, min, max, ◌≡◌, Bool, true, false, List, [], ◌∷◌, length, Result, Ok, Err}
+use Rattle.std.specs.Prelude.{ℕ, ◌+◌, ◌-◌, ◌*◌, ◌≤◌, min, max, ◌≡◌, Bool, true, false, List, [], ◌∷◌, length, get_or, Result, Ok, Err}
 use Rattle.paper.specs.Limits.{pattern_bytes, pattern_levels, pattern_groups, pattern_places}
 use Rattle.paper.specs.Refusal.{Checked, refused, accepted}
-use Rattle.paper.specs.Pattern.{Upper, up_to, no_end, Pattern, places, depth, groups}
+use Rattle.paper.specs.Pattern.{Range, Upper, up_to, no_end, Pattern, places, depth, groups}
 use Rattle.paper.specs.Layout.{sequence_kind, alternation_kind}
 use Rattle.paper.specs.Check.{Walk, body_length, body_start, body_end, body, walk_all}
 use Rattle.pattern.specs.declared.Refusal.{Refusal}
@@ -10,6 +10,10 @@ use Rattle.pattern.specs.declared.Refused.{Refused}
 use Rattle.pattern.specs.declared.walk.Walked.{Walked}
 use Rattle.pattern.specs.declared.walk.Members.{Members}
 use Rattle.pattern.specs.Refusals.{number_of}
+
+-- two bytes as a range of a byte set
+abbrev pub range_of : List ℕ → Range
+range_of pair = record { low = get_or pair 0 0; high = get_or pair 1 0 }
 
 -- a count of places up to the limit, which stands for all beyond
 abbrev pub capped : ℕ → ℕ

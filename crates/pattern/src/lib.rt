@@ -14,7 +14,7 @@ ghost use Rattle.paper.specs.Match.{line_and_table};
 ghost use Rattle.paper.specs.Rows.{no_rows};
 ghost use Rattle.paper.specs.Tables.{fork_place, open_place, close_place, begin_place, begin_optional_place, end_place, set_place, range_place, stop_place, accept_place};
 ghost use Rattle.pattern.specs.Answer.{Checks};
-ghost use Rattle.pattern.specs.Kinds.{IsKind};
+ghost use Rattle.pattern.specs.Kinds.{IsKind, IsPlace};
 ghost use Rattle.pattern.specs.Refusals.{number_of, checked_of};
 
 // The limits of a pattern.
@@ -35,7 +35,7 @@ impl Pattern {
     pub const REPEAT_COUNT: usize = 255;
     // what stands for no upper end in a repeat
     pub const NO_UPPER_END: usize = 65535;
-    // the modes of a repeat
+    // the modes of a repeat, as numbers: laying's `any_star` may be asked with any number, and an enum would ask more
     pub const GREEDY: usize = 0;
 
     pub const LAZY: usize = 1;
@@ -202,6 +202,32 @@ impl PlaceKind {
             PlaceKind::Stop as u16,
             PlaceKind::Accept as u16,
         ]
+    }
+}
+
+// A number that no kind of place has.
+#[derive(Clone, Copy, Debug, PartialEq, Eq)]
+pub struct UnknownPlace;
+
+impl TryFrom<u16> for PlaceKind {
+    type Error = UnknownPlace;
+
+    ghost try_from_gives = { IsPlace };
+
+    fn try_from(number: u16) -> Result<Self, UnknownPlace> {
+        match number {
+            0 => Ok(PlaceKind::Fork),
+            1 => Ok(PlaceKind::Open),
+            2 => Ok(PlaceKind::Close),
+            3 => Ok(PlaceKind::Begin),
+            4 => Ok(PlaceKind::BeginOptional),
+            5 => Ok(PlaceKind::End),
+            6 => Ok(PlaceKind::Set),
+            7 => Ok(PlaceKind::Range),
+            8 => Ok(PlaceKind::Stop),
+            9 => Ok(PlaceKind::Accept),
+            _ => Err(UnknownPlace),
+        }
     }
 }
 

@@ -1,46 +1,32 @@
 // The body of a byte set: 1 to 32 pairs of low and high, each low at most its high and at least 2 above the high before it.
-ghost use Rattle.std.specs.Prelude.{◌≡◌, ◌≤◌, ◌-◌, ◌%◌, length};
-ghost use Rattle.paper.specs.Check.{part, apart, ranges_of, set_right};
+ghost use Rattle.std.specs.Prelude.{◌≡◌, map};
+ghost use Rattle.paper.specs.Check.{apart, set_right};
+ghost use Rattle.pattern.specs.Walk.{range_of};
 
 use crate::Pattern;
 
-// Whether the pairs between two offsets stand in order and apart.
-fn apart(s: &[u8], start: usize, end: usize) -> bool
-    requires { (start ≤ end) × ((end - start) % 2 ≡ 0) × (end ≤ length s.now) }
-    ensures { result ≡ apart (ranges_of (part s.now start end)) }
+// Whether pairs stand in order and apart.
+fn apart(pairs: &[[u8; 2]]) -> bool
+    ensures { result ≡ apart (map range_of pairs.now) }
 {
-    let mut at = start;
     // the least that the next low may be
     let mut floor = 0;
-    while at < end {
-        let low = usize::from(s[at]);
-        let high = usize::from(s[at + 1]);
-        if low < floor {
+    for &[low, high] in pairs {
+        if usize::from(low) < floor || high < low {
             return false;
         }
-        if high < low {
-            return false;
-        }
-        floor = high + 2;
-        at += 2;
+        floor = usize::from(high) + 2;
     }
     true
 }
 
-// Whether the bytes between two offsets are right as a byte set's body.
-pub fn right(s: &[u8], start: usize, end: usize) -> bool
-    requires { (start ≤ end) × (end ≤ length s.now) }
-    ensures { result ≡ set_right (part s.now start end) }
+// Whether bytes are right as a byte set's body.
+pub fn right(body: &[u8]) -> bool
+    ensures { result ≡ set_right body.now }
 {
-    let long = end - start;
-    if long == 0 {
-        return false;
+    let (pairs, rest) = body.as_chunks::<2>();
+    match pairs.len() {
+        1..=Pattern::SET_PAIRS if rest.is_empty() => apart(pairs),
+        _ => false,
     }
-    if long % 2 == 1 {
-        return false;
-    }
-    if 2 * Pattern::SET_PAIRS < long {
-        return false;
-    }
-    apart(s, start, end)
 }

@@ -88,7 +88,7 @@ impl Body<'_> {
             Kind::Nothing => self.leaf(empty, Refusal::BrokenRecord, 1, before),
             Kind::Empty => self.leaf(empty, Refusal::BrokenRecord, 0, before),
             Kind::Bytes => self.leaf(
-                sets::right(self.s, self.start, self.end),
+                sets::right(&self.s[self.start..self.end]),
                 Refusal::SetWrong,
                 1,
                 before,

@@ -156,7 +156,7 @@ impl Record<'_> {
         }
     }
 
-    // The same, without a call where no record is inside, as in most: building `grown (\d+) factory (\d+)` takes 555 ns so, and 600 with a call.
+    // The same, without a call where no record is inside, as in most: laying `grown (\d+) factory (\d+)` took 340 ns so, and 385 with a call.
     #[cycle(counting)]
     pub fn sums(self) -> Sums
         requires { Alone self }

@@ -37,9 +37,9 @@ fn record_end(pattern: &[u8], at: usize) -> usize
 impl Part<'_> {
     // The places of a group: its open, what it holds, its close. The part is what it holds, and its places begin with the open.
     #[cycle(walking)]
-    pub fn captured(self, table: &mut Table, group: usize)
-        requires { GroupAsked self group }
-        ensures { Writes (GroupMade self.entry group) table.old table.new }
+    pub fn captured(&self, table: &mut Table, group: usize)
+        requires { GroupAsked self.now group }
+        ensures { Writes (GroupMade self.now group) table.old table.new }
     {
         let base = self.base + 1;
         let close = base + self.places;
@@ -59,7 +59,7 @@ impl Part<'_> {
         Part {
             base,
             next: close,
-            ..self
+            ..*self
         }
         .one(table);
         table.put(close, end);
@@ -68,9 +68,9 @@ impl Part<'_> {
     // The places of one repeat: the inner part of its first pass, and the passes around it and its copies.
     #[cycle(walking)]
     #[inline(never)]
-    fn repeated(self, table: &mut Table)
-        requires { RepeatAsked self }
-        ensures { Writes (RepeatMade self.entry) table.old table.new }
+    fn repeated(&self, table: &mut Table)
+        requires { RepeatAsked self.now }
+        ensures { Writes (RepeatMade self.now) table.old table.new }
     {
         let start = self.at + 4;
         let must = number_at(self.pattern, start);
@@ -84,7 +84,7 @@ impl Part<'_> {
             places,
             base: model,
             next: model + places,
-            ..self
+            ..*self
         };
         let passes = Passes {
             pass: Pass {
@@ -106,9 +106,9 @@ impl Part<'_> {
 
     // The places of one record. What lays the records inside it stands apart: most records hold none, and theirs is the shorter way.
     #[cycle(walking)]
-    pub fn one(self, table: &mut Table)
-        requires { OneAsked self }
-        ensures { Writes (OneMade self.entry) table.old table.new }
+    pub fn one(&self, table: &mut Table)
+        requires { OneAsked self.now }
+        ensures { Writes (OneMade self.now) table.old table.new }
     {
         if self.places == 0 {
             return;
@@ -133,17 +133,17 @@ impl Part<'_> {
     // The places of a group.
     #[cycle(walking)]
     #[inline(never)]
-    fn group(self, table: &mut Table)
-        requires one { OneAsked self }
-        requires group { kind_at self.pattern.now self.at ≡ 3 }
-        ensures { Writes (OneMade self.entry) table.old table.new }
+    fn group(&self, table: &mut Table)
+        requires one { OneAsked self.now }
+        requires group { kind_at self.now.pattern.now self.now.at ≡ 3 }
+        ensures { Writes (OneMade self.now) table.old table.new }
     {
         let held = Part {
             at: self.at + 4,
             first: self.first + 1,
             places: self.places - 2,
             groups: self.groups - 1,
-            ..self
+            ..*self
         };
         held.captured(table, self.first);
     }
@@ -151,15 +151,15 @@ impl Part<'_> {
     // Where a record of so many places leads that others follow, `rest` places from `second` on: in a sequence to the next that has places,
     // in an alternation to what follows the row, and then a fork stands before the record.
     fn joined(
-        self,
+        &self,
         table: &mut Table,
         forks: bool,
         places: usize,
         second: usize,
         rest: usize,
     ) -> usize
-        requires { Joining forks self.base second self.next }
-        ensures { Writes (Joined forks self.entry.base places second rest self.entry.next result) table.old table.new }
+        requires { Joining forks self.now.base second self.now.next }
+        ensures { Writes (Joined forks self.now.base places second rest self.now.next result) table.old table.new }
     {
         let other = entered(rest, second, self.next);
         if forks {
@@ -172,39 +172,32 @@ impl Part<'_> {
     }
 
     // The places of the records inside one, as a sequence or with the forks of an alternation, one before each record but the last.
+    // No `for` over `Records`: the last record is not counted, it has what is left, and each would be asked whether it is the last.
     #[cycle(walking)]
     #[inline(never)]
-    fn row(self, table: &mut Table, forks: bool)
-        requires { RowAsked self forks }
-        ensures { Writes (RowMade self.entry forks) table.old table.new }
+    fn row(&self, table: &mut Table, forks: bool)
+        requires { RowAsked self.now forks }
+        ensures { Writes (RowMade self.now forks) table.old table.new }
     {
         let head = usize::from(forks);
-        let mut left = Part {
-            at: self.at + 4,
-            ..self
-        };
-        let mut end = record_end(self.pattern, left.at);
-        // No `for` over `Records`: the last record is not counted, it has what is left, and each would be asked whether it is the last.
+        let pattern = self.pattern;
+        let at = self.at + 4;
+        let mut left = Part { at, ..*self };
+        let mut end = record_end(pattern, at);
         while end != self.stop {
-            let record = Record {
-                pattern: self.pattern,
-                at: left.at,
-                end,
-            };
-            let own = record.sums();
+            let at = left.at;
+            let own = Record { pattern, at, end }.sums();
             let base = left.base + head;
             let second = base + own.places;
             let rest = left.places - head - own.places;
             let next = left.joined(table, forks, own.places, second, rest);
             let one = Part {
-                at: left.at,
                 stop: end,
-                first: left.first,
                 places: own.places,
                 groups: own.groups,
                 base,
                 next,
-                ..self
+                ..left
             };
             one.one(table);
             left = Part {
@@ -215,7 +208,7 @@ impl Part<'_> {
                 base: second,
                 ..left
             };
-            end = record_end(self.pattern, end);
+            end = record_end(pattern, end);
         }
         left.one(table);
     }

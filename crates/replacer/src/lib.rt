@@ -9,6 +9,7 @@ ghost use Rattle.replacer.specs.Promise.{Replaces};
 use machine::{LargeScratch, Machine, Scratch, SmallScratch};
 use pattern::{Line, Refusal, Refused};
 use scans::Scan;
+use turns::Sources;
 use turns::output::{Buffer, Length};
 
 // What replace-all answers: the output's length, the replacements and the sum of all searches' steps.
@@ -23,7 +24,7 @@ impl Scan<'_, '_, '_> {
     // Refusal 13, else the output in the buffer, in lent scratch: the scan is measured before the first byte is written.
     fn replace_in(self, scratch: &mut Scratch, buffer: &mut [u8]) -> Result<Replaced, Refused>
         requires { Roomy self.machine.places self.machine.depth scratch.old }
-        ensures { Replaces self.entry.machine.pattern.now self.entry.template.now self.entry.line.now buffer.old result buffer.new }
+        ensures { Replaces self.entry.machine.pattern.now self.entry.sources.template.now self.entry.sources.line.now buffer.old result buffer.new }
     {
         let mut length = Length { bytes: 0 };
         let scanned = self.append_to(scratch, &mut length);
@@ -44,7 +45,7 @@ impl Scan<'_, '_, '_> {
 
     // The same in scratch as large as the machine asks for.
     fn replace(self, buffer: &mut [u8]) -> Result<Replaced, Refused>
-        ensures { Replaces self.entry.machine.pattern.now self.entry.template.now self.entry.line.now buffer.old result buffer.new }
+        ensures { Replaces self.entry.machine.pattern.now self.entry.sources.template.now self.entry.sources.line.now buffer.old result buffer.new }
     {
         if machine::is_small(self.machine.places, self.machine.depth) {
             self.replace_in(&mut SmallScratch::new().lend(), buffer)
@@ -77,10 +78,6 @@ pub fn replace_all(
         places: numbers.places,
         depth: numbers.depth,
     };
-    let scan = Scan {
-        machine,
-        template,
-        line,
-    };
-    scan.replace(buffer)
+    let sources = Sources { template, line };
+    Scan { machine, sources }.replace(buffer)
 }

@@ -1,30 +1,26 @@
 // The scan over the line, search by search.
-ghost use Rattle.std.specs.Prelude.{◌≡◌, ◌≤◌, Bool, length};
+ghost use Rattle.std.specs.Prelude.{◌≡◌, Bool};
 ghost use Rattle.machine.specs.Scratch.{Roomy, Runnable, Lasts};
 ghost use Rattle.std.proofs.Props.{props};
-ghost use Rattle.paper.specs.Limits.{line_bytes};
 ghost use Rattle.paper.specs.Refusal.{accepted};
 ghost use Rattle.paper.specs.Pattern.{groups};
 ghost use Rattle.paper.specs.Template.{within};
-ghost use Rattle.turns.specs.Accepted.{pieces_of, Right};
+ghost use Rattle.turns.specs.Accepted.{pieces_of};
 ghost use Rattle.replacer.specs.Given.{tree_of, whole_of};
 ghost use Rattle.replacer.specs.Scans.{Turns, Counts};
 
 use machine::{Machine, Scratch};
-use turns::Turn;
 use turns::output::Output;
+use turns::{Sources, Turn};
 
-// What is scanned, by what, and what is put in: a machine built for searching, a template whose references are within its groups, and a line
-// within the limit.
+// What is scanned, by what, and what is put in: a machine built for searching, and a line and a template whose references are within the
+// pattern's groups.
 #[derive(Clone, Copy)]
 pub struct Scan<'m, 't, 'l> {
     pub machine: Machine<'m>,
-    pub template: &'t [u8],
-    pub line: &'l [u8],
+    pub sources: Sources<'t, 'l>,
     pub ghost built: { machine.searches ≡ Bool.true },
-    pub ghost right: { Right template.now } by { Prim.hlevel props },
-    pub ghost low: { within (pieces_of template.now) (groups (tree_of machine.pattern.now)) ≡ accepted tt } by { Prim.hlevel props },
-    pub ghost short: { length line.now ≤ line_bytes },
+    pub ghost low: { within (pieces_of sources.template.now) (groups (tree_of machine.pattern.now)) ≡ accepted tt } by { Prim.hlevel props },
 }
 
 // What a scan gives beside its output: the replacements and the sum of all searches' steps.
@@ -37,20 +33,20 @@ pub struct Scanned {
 impl Scan<'_, '_, '_> {
     // The turn of the search from a position on.
     fn turn(self, scratch: &mut Scratch, from: usize, last: Option<usize>) -> Turn
-        requires { Runnable self.machine.places self.machine.depth self.line.now from scratch.old }
-        ensures turns { Turns self.entry.machine.pattern.now self.entry.line.now from last result }
+        requires { Runnable self.machine.places self.machine.depth self.sources.line.now from scratch.old }
+        ensures turns { Turns self.entry.machine.pattern.now self.entry.sources.line.now from last result }
         ensures lasts { Lasts scratch.old scratch.new }
     {
-        let ran = self.machine.search_rows(self.line, from, scratch);
-        turns::turn_of(self.line.len(), last, ran.rows, ran.steps)
+        let ran = self.machine.search_rows(self.sources.line, from, scratch);
+        turns::turn_of(self.sources.line.len(), last, ran.rows, ran.steps)
     }
 
     // Appends what the scan of the whole line writes to the output.
     pub fn append_to<O: Output>(self, scratch: &mut Scratch, output: &mut O) -> Scanned
         requires roomy { Roomy self.machine.places self.machine.depth scratch.old }
-        requires room { O.has_room output.old (whole_of self.machine.pattern.now self.template.now self.line.now).output }
-        ensures written { O.appends output.old (whole_of self.entry.machine.pattern.now self.entry.template.now self.entry.line.now).output output.new }
-        ensures counts { Counts self.entry.machine.pattern.now self.entry.template.now self.entry.line.now result }
+        requires room { O.has_room output.old (whole_of self.machine.pattern.now self.sources.template.now self.sources.line.now).output }
+        ensures written { O.appends output.old (whole_of self.entry.machine.pattern.now self.entry.sources.template.now self.entry.sources.line.now).output output.new }
+        ensures counts { Counts self.entry.machine.pattern.now self.entry.sources.template.now self.entry.sources.line.now result }
         ensures lasts { Lasts scratch.old scratch.new }
     {
         let mut goes = Some(0);
@@ -59,7 +55,7 @@ impl Scan<'_, '_, '_> {
         let mut steps: u64 = 0;
         while let Some(from) = goes {
             let turn = self.turn(scratch, from, last);
-            turn.write(self.template, self.line, from, output);
+            turn.write(self.sources, from, output);
             replacements += usize::from(turn.put.is_some());
             steps += u64::from(turn.steps);
             goes = turn.goes;

@@ -2,13 +2,15 @@
 // and its numbers in 01's order.
 #![tactic(auto)]
 
-ghost use Rattle.std.specs.Prelude.{[], ◌∷◌, ◌≤◌, length};
-ghost use Rattle.paper.specs.Refusal.{refused, accepted};
+ghost use Rattle.std.specs.Prelude.{ℕ, ◌≡◌, ◌≤◌, List, Result, Ok, Err, length, refl};
+ghost use Rattle.paper.specs.Refusal.{Checked, refused, accepted};
+ghost use Rattle.pattern.specs.declared.Refused.{Refused};
+ghost use Rattle.pattern.specs.Refusals.{number_of};
 ghost use Rattle.pattern.specs.Answer as checked;
 ghost use Rattle.matcher.specs.Answer as found;
 ghost use Rattle.template.specs.Answer as piece;
 ghost use Rattle.replacer.specs.Answer as replaced;
-ghost use Rattle.telling.specs.Told.{Numbered, Tells, check_numbers, found_numbers, span_numbers, replaced_numbers, built_numbers};
+ghost use Rattle.telling.specs.Told.{Tells, check_numbers, found_numbers, span_numbers, replaced_numbers};
 
 use matcher::Found;
 use pattern::{Numbers, Refused};
@@ -16,91 +18,77 @@ use replacer::Replaced;
 use template::Span;
 
 // The status of an answer, which is no refusal's number.
-#[derive(Clone, Copy)]
-struct Status {}
+const ANSWERED: u32 = 0;
 
-impl Status {
-    const ANSWERED: u32 = 0;
+// What a call answers where it is not refused: so many numbers.
+pub trait Answer<const N: usize> {
+    // what an answer is told as
+    ghost told: { Result Self Refused → Checked (List ℕ) };
+
+    fn numbers(self) -> [u64; N]
+        ensures { told (Ok self) ≡ accepted result };
+
+    // a refusal is told as one
+    ghost refuses: { (r : Refused) → told (Err r) ≡ refused (number_of r.refusal) r.place };
 }
 
-// A refusal: its number is the status, and its place is told.
-fn refusal(number: usize, place: usize, out: &mut [u64]) -> u32
-    requires { Numbered {A = Unit {0}} (refused number place) × (1 ≤ length out.old) }
-    ensures { Tells (refused number place) out.old result out.new }
-{
-    out[0] = place as u64;
-    number as u32
-}
+// What checking and building answer.
+impl Answer<3> for Numbers {
+    ghost told = { λ r. check_numbers (checked.answer_of r) };
 
-// Two numbers.
-fn two(a: usize, b: usize, out: &mut [u64]) -> u32
-    requires { 2 ≤ length out.old }
-    ensures { Tells (accepted (a ∷ b ∷ [])) out.old result out.new }
-{
-    out[0] = a as u64;
-    out[1] = b as u64;
-    Status::ANSWERED
-}
+    ghost refuses = { λ r. refl };
 
-// Three numbers.
-fn three(a: usize, b: usize, c: usize, out: &mut [u64]) -> u32
-    requires { 3 ≤ length out.old }
-    ensures { Tells (accepted (a ∷ b ∷ c ∷ [])) out.old result out.new }
-{
-    out[0] = a as u64;
-    out[1] = b as u64;
-    out[2] = c as u64;
-    Status::ANSWERED
-}
-
-// What checking answered.
-pub fn tell_checked(answer: Result<Numbers, Refused>, out: &mut [u64]) -> u32
-    requires { Numbered (checked.answer_of answer) × (3 ≤ length out.old) }
-    ensures { Tells (check_numbers (checked.answer_of answer)) out.old result out.new }
-{
-    match answer {
-        Err(refused) => refusal(refused.refusal.number(), refused.place, out),
-        Ok(numbers) => three(numbers.places, numbers.depth, numbers.groups, out),
+    fn numbers(self) -> [u64; 3] {
+        [self.places as u64, self.depth as u64, self.groups as u64]
     }
 }
 
-// What a whole match or a search answered.
-pub fn tell_found(answer: Result<Found, Refused>, out: &mut [u64]) -> u32
-    requires { Numbered (found.answer_of answer) × (2 ≤ length out.old) }
-    ensures { Tells (found_numbers (found.answer_of answer)) out.old result out.new }
-{
-    match answer {
-        Err(refused) => refusal(refused.refusal.number(), refused.place, out),
-        Ok(Found { matched, steps }) => two(usize::from(matched), steps as usize, out),
+// What a whole match and a search answer.
+impl Answer<2> for Found {
+    ghost told = { λ r. found_numbers (found.answer_of r) };
+
+    ghost refuses = { λ r. refl };
+
+    fn numbers(self) -> [u64; 2] {
+        [u64::from(self.matched), u64::from(self.steps)]
     }
 }
 
 // What a piece is.
-pub fn tell_piece(answer: Result<Span, Refused>, out: &mut [u64]) -> u32
-    requires { Numbered (piece.answer_of answer) × (3 ≤ length out.old) }
-    ensures { Tells (span_numbers (piece.answer_of answer)) out.old result out.new }
-{
-    match answer {
-        Err(refused) => refusal(refused.refusal.number(), refused.place, out),
-        Ok(span) => three(span.source as usize, span.start, span.end, out),
+impl Answer<3> for Span {
+    ghost told = { λ r. span_numbers (piece.answer_of r) };
+
+    ghost refuses = { λ r. refl };
+
+    fn numbers(self) -> [u64; 3] {
+        [self.source as u64, self.start as u64, self.end as u64]
     }
 }
 
-// What replace-all answered.
-pub fn tell_replaced(answer: Result<Replaced, Refused>, out: &mut [u64]) -> u32
-    requires { Numbered (replaced.answer_of answer) × (3 ≤ length out.old) }
-    ensures { Tells (replaced_numbers (replaced.answer_of answer)) out.old result out.new }
-{
-    match answer {
-        Err(refused) => refusal(refused.refusal.number(), refused.place, out),
-        Ok(done) => three(done.length, done.replacements, done.steps as usize, out),
+// What replace-all answers.
+impl Answer<3> for Replaced {
+    ghost told = { λ r. replaced_numbers (replaced.answer_of r) };
+
+    ghost refuses = { λ r. refl };
+
+    fn numbers(self) -> [u64; 3] {
+        [self.length as u64, self.replacements as u64, self.steps]
     }
 }
 
-// What building answered.
-pub fn tell_built(answer: Result<Numbers, Refused>, out: &mut [u64]) -> u32
-    requires { Numbered (built_numbers answer) × (3 ≤ length out.old) }
-    ensures { Tells (built_numbers answer) out.old result out.new }
+// Tells an answer, and gives its status.
+pub fn tell<const N: usize, T: Answer<N>>(answer: Result<T, Refused>, out: &mut [u64]) -> u32
+    requires { (1 ≤ length out.old) × (N ≤ length out.old) }
+    ensures { Tells (T.told answer) out.old result out.new }
 {
-    tell_checked(answer, out)
+    match answer {
+        Err(refused) => {
+            out[0] = refused.place as u64;
+            refused.refusal.number() as u32
+        }
+        Ok(answered) => {
+            out[..N].copy_from_slice(&answered.numbers());
+            ANSWERED
+        }
+    }
 }

@@ -13,6 +13,7 @@ ghost use Rattle.turns.specs.Accepted.{pieces_of, Right};
 
 use output::Output;
 use pattern::Spans;
+pub use putting::Sources;
 
 // Up to where the line is copied first, for which rows the template is put in, up to where the line is copied then, from where the scan goes
 // on, where the last non-empty match ended, and the search's steps.
@@ -83,14 +84,14 @@ pub fn turn_of(
 
 impl Turn {
     // Appends what a turn from a position writes.
-    pub fn write<O: Output>(self, template: &[u8], line: &[u8], from: usize, output: &mut O)
-        requires { Right template.now × TurnFits (length line.now) from (as_turn self) × (length line.now ≤ line_bytes) × O.has_room output.old (turn_bytes template.now line.now (pieces_of template.now) from (as_turn self)) }
-        ensures { O.appends output.old (turn_bytes template.now line.now (pieces_of template.now) from (as_turn self)) output.new }
+    pub fn write<O: Output>(self, sources: Sources, from: usize, output: &mut O)
+        requires { TurnFits (length sources.line.now) from (as_turn self) × O.has_room output.old (turn_bytes sources.template.now sources.line.now (pieces_of sources.template.now) from (as_turn self)) }
+        ensures { O.appends output.old (turn_bytes sources.entry.template.now sources.entry.line.now (pieces_of sources.entry.template.now) from (as_turn self)) output.new }
     {
-        output.append(&line[from..self.start]);
+        output.append(&sources.line[from..self.start]);
         if let Some(rows) = self.put {
-            putting::put(template, line, rows, output);
+            sources.put(rows, output);
         }
-        output.append(&line[self.start..self.upto]);
+        output.append(&sources.line[self.start..self.upto]);
     }
 }

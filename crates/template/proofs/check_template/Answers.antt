@@ -1,3 +1,4 @@
+use Rattle.std.proofs.Common.{arith}
 use Rattle.template.proofs.Walks.{count_step, count_stops, count_ends}
 use Rattle.template.proofs.check_template.Goals as goal
 
@@ -11,10 +12,10 @@ returns-then-records-template c =
     let l = c.loop-count in
     rw c.at-then-records-template.ensures
     (count_stops c.args.template.now l.records c.next.new.self l.count l.invariant.0 l.invariant.1 c.in_default.ensures.steps
-    c.if-template-gt-BYTES.false c.if-records-template.true)
+    (omega arith) c.if-records-template.true)
 
 pub returns : goal.returns
 returns c =
     let l = c.loop-count in
     count_ends c.args.template.now l.records c.next.new.self l.count l.invariant.0 l.invariant.1 c.in_default.ensures.steps
-    c.if-template-gt-BYTES.false c.if-records-template.false
+    (omega arith) c.if-records-template.false

@@ -1,10 +1,9 @@
--- Whole pairs are left, and they are as right as all of them.
-use Rattle.std.proofs.Common.{◌-◌}
-use Rattle.pattern.proofs.Pairs.{Left}
+-- The pairs that are left are as right as all of them.
+use Rattle.std.proofs.Common.{◌≡◌, map, drop}
+use Rattle.paper.specs.Check.{apart}
+use Rattle.pattern.specs.Walk.{range_of}
+use Rattle.pattern.proofs.Pairs.{apart_from}
 use Rattle.pattern.proofs.sets.apart.Given as goal
 
-abbrev pub invariant-loop-at : goal.invariant-loop-at
-invariant-loop-at l = Left l.s l.start l.end l.at l.floor
-
-abbrev pub decreases-loop-at : goal.decreases-loop-at
-decreases-loop-at l = l.end - l.at
+abbrev pub invariant-loop-low : goal.invariant-loop-low
+invariant-loop-low l = apart_from l.floor (map range_of (drop l.low-index l.pairs)) ≡ apart (map range_of l.pairs)

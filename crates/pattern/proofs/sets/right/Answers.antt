@@ -1,7 +1,7 @@
--- `sets::right` meets its contract: how many bytes there are decides all but whether the pairs are apart.
-use Rattle.std.proofs.Common.{arith, ◌∙◌}
+-- `sets::right` meets its contract: 1 to 32 whole pairs that are apart.
+use Rattle.std.proofs.Common.{arith, rules, ◌∙◌}
 use Rattle.pattern.proofs.Pairs.{few_pairs}
 use Rattle.pattern.proofs.sets.right.Goals as goal
 
-pub returns : goal.returns
-returns c = c.apart.ensures ∙ few_pairs c.args.s.now c.args.start c.args.end c.requires.1 (omega arith) (omega arith) c.if-long.false
+pub returns-in-1-to-32 : goal.returns-in-1-to-32
+returns-in-1-to-32 c = rw c.as_chunks.ensures.front at c.apart.ensures ∙ few_pairs c.args.body.now (search rules) (omega arith) (omega arith)

@@ -15,14 +15,12 @@ puts template line put = cond (is_some put) (put_in template line (unwrap_or put
 pub put-requires : goal.put-requires
 put-requires g c =
     let self = c.args.self in
-    let template = c.args.template.now in
-    let line = c.args.line.now in
+    let template = c.args.sources.template.now in
+    let line = c.args.sources.line.now in
     let second = part line self.start self.upto in
     let rest = g.met.O.Output.room_second c.args.output.now c.append.new.self (part line c.args.from self.start) (puts template line self.put ++ second)
-    c.requires.3 c.append.ensures in (
-      c.requires.0,
-      subst (λ (o : Option Rows). RowsFit (length line) (unwrap_or o no_rows)) c.in-Some.is c.requires.1.rows_fit,
-      c.requires.2,
+    c.requires.1 c.append.ensures in (
+      subst (λ (o : Option Rows). RowsFit (length line) (unwrap_or o no_rows)) c.in-Some.is c.requires.0.rows_fit,
       subst (λ (o : Option Rows). g.O.Output.has_room c.append.new.self (puts template line o)) c.in-Some.is
           (g.met.O.Output.room_first c.append.new.self (puts template line self.put) second rest),
     )
@@ -30,11 +28,11 @@ put-requires g c =
 pub append-requires-2 : goal.append-requires-2
 append-requires-2 g c =
     let self = c.args.self in
-    let template = c.args.template.now in
-    let line = c.args.line.now in
+    let template = c.args.sources.template.now in
+    let line = c.args.sources.line.now in
     let second = part line self.start self.upto in
     let rest = g.met.O.Output.room_second c.args.output.now c.append.new.self (part line c.args.from self.start) (puts template line self.put ++ second)
-    c.requires.3 c.append.ensures in
+    c.requires.1 c.append.ensures in
     let appends = g.O.Output.appends c.append.new.self in
     let put : appends (puts template line self.put) c.match-self.output =
     elim c.match-self.branch [

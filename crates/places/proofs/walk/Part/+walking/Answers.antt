@@ -115,11 +115,11 @@ row-one-requires t c =
     let i = c.loop-end.invariant.1 in
     let j = rw i.same_next at c.joined-next.ensures.1 in (
       omega (arith, i.passed, i.end_is, row_header i.row),
-      join_one i.end_is c.loop-end-test.true c.sums-own.ensures c.args.forks _ _ c.from-head.ensures j i.row,
+      rw i.same_pattern (join_one i.end_is c.loop-end-test.true c.sums-own.ensures c.args.forks _ _ c.from-head.ensures j i.row),
     )
 
-pub row-overflow_add-left-in-loop-end : goal.row-overflow_add-left-in-loop-end
-row-overflow_add-left-in-loop-end t c =
+pub row-overflow_add-left : goal.row-overflow_add-left
+row-overflow_add-left t c =
     let i = c.loop-end.invariant.1 in omega (arith, more_few i.end_is c.loop-end-test.true c.sums-own.ensures i.row)
 
 pub row-overflow_sub-left : goal.row-overflow_sub-left
@@ -133,9 +133,10 @@ row-record_end-end-requires-in-loop-end-clause-header t c =
 pub row-loop-end-preserved : goal.row-loop-end-preserved
 row-loop-end-preserved t c =
     let i = c.loop-end.invariant.1 in
-    let j = rw i.same_next at c.joined-next.ensures.1 in (
+    let j = rw i.same_next at c.joined-next.ensures.1 in
+    let o = rw i.same_pattern at c.one.ensures.1 in (
       c.one.ensures.0 ∙ c.joined-next.ensures.0 ∙ c.loop-end.invariant.0,
-      along_one i c.loop-end-test.true c.sums-own.ensures c.from-head.ensures j c.one.ensures.1 c.record_end-end-in-loop-end.ensures,
+      along_one i c.loop-end-test.true c.sums-own.ensures c.from-head.ensures j o c.record_end-end-in-loop-end.ensures,
     )
 
 pub row-one-requires-2 : goal.row-one-requires-2

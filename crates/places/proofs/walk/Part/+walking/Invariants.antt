@@ -5,19 +5,19 @@ use Rattle.places.proofs.Rows.{Along}
 use Rattle.places.proofs.walk.Part.+walking.Given as goal
 
 abbrev pub decreases-captured : goal.decreases-captured
-decreases-captured l = 4 * (l.self.stop - l.self.at) + 1
+decreases-captured l = 4 * (l.self.now.stop - l.self.now.at) + 1
 
 abbrev pub decreases-one : goal.decreases-one
-decreases-one l = 4 * (l.self.stop - l.self.at)
+decreases-one l = 4 * (l.self.now.stop - l.self.now.at)
 
 abbrev pub decreases-group : goal.decreases-group
-decreases-group l = 4 * (l.self.stop - (l.self.at + 4)) + 2
+decreases-group l = 4 * (l.self.now.stop - (l.self.now.at + 4)) + 2
 
 abbrev pub decreases-repeated : goal.decreases-repeated
-decreases-repeated l = 4 * (l.self.stop - (l.self.at + 4))
+decreases-repeated l = 4 * (l.self.now.stop - (l.self.now.at + 4))
 
 abbrev pub decreases-row : goal.decreases-row
-decreases-row l = 4 * (l.self.stop - (l.self.at + 4)) + 2
+decreases-row l = 4 * (l.self.now.stop - (l.self.now.at + 4)) + 2
 
 abbrev pub invariant-row-loop-end : goal.invariant-row-loop-end
 invariant-row-loop-end l = Writes (Along l.self l.forks l.left l.end) l.initial.table l.table

@@ -6,7 +6,7 @@ use Rattle.replacer.proofs.scans.Scan.append_to.Given as goal
 abbrev pub invariant-loop-goes : goal.invariant-loop-goes
 invariant-loop-goes g l =
     Lasts l.initial.scratch l.scratch
-    × Scanning g.O.Output.has_room g.O.Output.appends l.self.machine.pattern.now l.self.template.now l.self.line.now l.initial.output l.goes l.last l.output l.replacements l.steps
+    × Scanning g.O.Output.has_room g.O.Output.appends l.self.machine.pattern.now l.self.sources.template.now l.self.sources.line.now l.initial.output l.goes l.last l.output l.replacements l.steps
 
 abbrev pub decreases-loop-goes : goal.decreases-loop-goes
-decreases-loop-goes g l = ahead l.self.line.now l.goes
+decreases-loop-goes g l = ahead l.self.sources.line.now l.goes
