@@ -94,7 +94,7 @@ pub fn print_line(
     p: &mut Printer,
     number: u64,
     rows: Option<[u16; Spans::NUMBERS]>,
-    steps: u32,
+    steps: u64,
     groups: usize,
 )
     ensures { Gathered p.old p.new }

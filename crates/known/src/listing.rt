@@ -6,24 +6,6 @@ use crate::words::labelled;
 use pattern::PlaceKind;
 use printer::Printer;
 
-const FORK: u16 = PlaceKind::Fork as u16;
-
-const OPEN: u16 = PlaceKind::Open as u16;
-
-const CLOSE: u16 = PlaceKind::Close as u16;
-
-const BEGIN: u16 = PlaceKind::Begin as u16;
-
-const BEGIN_OPTIONAL: u16 = PlaceKind::BeginOptional as u16;
-
-const END: u16 = PlaceKind::End as u16;
-
-const SET: u16 = PlaceKind::Set as u16;
-
-const STOP: u16 = PlaceKind::Stop as u16;
-
-const ACCEPT: u16 = PlaceKind::Accept as u16;
-
 // The four numbers of a place.
 #[derive(Clone, Copy)]
 struct Place {
@@ -111,13 +93,13 @@ impl Place {
     fn action(self, p: &mut Printer, pattern: &[u8])
         ensures { Gathered p.old p.new }
     {
-        match self.kind {
-            OPEN => labelled(p, b"open ", u64::from(self.a)),
-            CLOSE => labelled(p, b"close ", u64::from(self.a)),
-            BEGIN => begin(p, b"begin", self.a, self.many),
-            BEGIN_OPTIONAL => begin(p, b"begin optional", self.a, self.many),
-            END => p.bytes(b"end"),
-            SET => set(p, pattern, self.a, self.many),
+        match PlaceKind::try_from(self.kind) {
+            Ok(PlaceKind::Open) => labelled(p, b"open ", u64::from(self.a)),
+            Ok(PlaceKind::Close) => labelled(p, b"close ", u64::from(self.a)),
+            Ok(PlaceKind::Begin) => begin(p, b"begin", self.a, self.many),
+            Ok(PlaceKind::BeginOptional) => begin(p, b"begin optional", self.a, self.many),
+            Ok(PlaceKind::End) => p.bytes(b"end"),
+            Ok(PlaceKind::Set) => set(p, pattern, self.a, self.many),
             _ => single(p, self.a, self.many),
         }
     }
@@ -126,13 +108,13 @@ impl Place {
     fn deed(self, p: &mut Printer, pattern: &[u8])
         ensures { Gathered p.old p.new }
     {
-        match self.kind {
-            FORK => {
+        match PlaceKind::try_from(self.kind) {
+            Ok(PlaceKind::Fork) => {
                 labelled(p, b"fork, prefers ", u64::from(self.next));
                 labelled(p, b", else ", u64::from(self.a));
             }
-            STOP => p.bytes(b"stop"),
-            ACCEPT => p.bytes(b"accept"),
+            Ok(PlaceKind::Stop) => p.bytes(b"stop"),
+            Ok(PlaceKind::Accept) => p.bytes(b"accept"),
             _ => {
                 self.action(p, pattern);
                 labelled(p, b", then ", u64::from(self.next));

@@ -12,6 +12,7 @@ mod scratch;
 use pattern::{Numbers, Pattern, PlaceKind, Refused};
 use run::Ran;
 pub use scratch::{LargeScratch, OwnScratch, Scratch, Small, SmallScratch, is_small};
+use visit::Table;
 
 // A machine as `build` leaves it: its pattern, its table, whether it is for a search, and how many places it has and how deep they are.
 #[derive(Clone, Copy)]
@@ -66,16 +67,19 @@ impl Machine<'_> {
         ensures lasts { Lasts scratch.old scratch.new }
     {
         let places = self.places;
+        let table = Table {
+            code: self.code,
+            pattern: self.pattern,
+            places,
+        };
         run::run(
-            self.code,
-            self.pattern,
+            table,
             line,
+            from as u16,
             &mut scratch.seen[..places * (self.depth + 1)],
             &mut scratch.taken[..places],
             scratch.lists,
             scratch.pending,
-            places,
-            from as u16,
         )
     }
 

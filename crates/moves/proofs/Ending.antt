@@ -4,13 +4,14 @@ use mathlib.Core.Path.{◌≡◌, sym, ◌∙◌, subst}
 use mathlib.Core.Bool.{Bool, true, false}
 use mathlib.Core.List.{List}
 use native.Mathlib.Omega.{arith}
-use borrow.Author.Tests.{ltb-true, ltb-false}
+use Rattle.std.specs.Prelude.{Option, is_none}
+use Rattle.moves.proofs.Ranges.{ahead_none, ahead_some, no_byte, some_byte}
 use lib.ListN.{length}
 use Rattle.paper.specs.Rows.{Rows}
 use Rattle.paper.specs.Machine.{at, Move, move_at, follow}
 use Rattle.paper.specs.Tables.{place_of}
 use Rattle.threads.specs.Threads.{stored, Carries}
-use Rattle.moves.specs.Shows.{AheadIn, Shows, Carried}
+use Rattle.moves.specs.Shows.{AheadIn, Shows}
 use Rattle.moves.specs.Moves.{Eats, Settling, Settles}
 use Rattle.moves.proofs.Moving.{move_eat, move_win, move_early, move_die}
 use Rattle.moves.proofs.Carrying.{shows_carry, carried_carry, shows_win, carried_win}
@@ -20,10 +21,10 @@ module _ {pattern : List ℕ} {p kind next a n : ℕ} {taken list : List ℕ} {c
   pub settle_room : 21 * count + 21 ≤ length list
   settle_room = omega (arith, asked.carried.fits, asked.carried.list_long)
 
-  module _ (there : Bool) (byte : ℕ) (rows : Rows) where
+  module _ (ahead : Option ℕ) (rows : Rows) where
     -- it carries its follower
-    pub settles_eat : (r : Bool) → Eats pattern there byte kind a n r → r ≡ true → (taken' list' : List ℕ) (count' : ℕ) → length rows ≡ 20
-        → Carries taken list next (p + 1) rows count taken' list' count' → Settles pattern there byte p kind next a n rows taken list count taken' list' count' false
+    pub settles_eat : (r : Bool) → Eats pattern ahead kind a n r → r ≡ true → (taken' list' : List ℕ) (count' : ℕ) → length rows ≡ 20
+        → Carries taken list next (p + 1) rows count taken' list' count' → Settles pattern ahead p kind next a n rows taken list count taken' list' count' false
     settles_eat r eats e taken' list' count' long made = record {
       carried = carried_carry taken list next (p + 1) rows count long taken' list' count' made (length taken) (asked.inside (eats.leads e)) asked.carried;
       shows = λ line along places seen steps place level visit s sh.
@@ -32,31 +33,30 @@ module _ {pattern : List ℕ} {p kind next a n : ℕ} {taken list : List ℕ} {c
           (shows_carry taken list next (p + 1) rows count long taken' list' count' made places seen steps s (asked.inside (eats.leads e)) settle_room sh);
     }
 
-    pub settles_win : (list' : List ℕ) → length rows ≡ 20 → kind ≡ 9 → there ≡ false → list' ≡ stored list (21 * count) 0 rows
-        → Settles pattern there byte p kind next a n rows taken list count taken list' count true
-    settles_win list' long e end same = record {
-      carried = subst (λ (l : List ℕ). Carried (length taken) (p + 1) taken l count) (sym same) (carried_win taken list (p + 1) rows count long (length taken) asked.carried);
+    pub settles_win : (taken' list' : List ℕ) (count' : ℕ) → length rows ≡ 20 → kind ≡ 9 → is_none ahead ≡ true
+        → (taken' ≡ taken) × (count' ≡ count) × (list' ≡ stored list (21 * count) 0 rows)
+        → Settles pattern ahead p kind next a n rows taken list count taken' list' count' true
+    settles_win taken' list' count' long e end won = rw (won.0, won.1, won.2) (record {
+      carried = carried_win taken list (p + 1) rows count long (length taken) asked.carried;
       shows = λ line along places seen steps place level visit s sh.
-          subst (λ (m : Move). Shows places (p + 1) seen taken list' count steps true (follow visit (at place level rows) m s))
-          (sym (move_win pattern line kind next a n p level rows e (omega (arith, along.within, ltb-false p (length line) (sym along.is_there ∙ end)))))
-          (subst (λ (l : List ℕ). Shows places (p + 1) seen taken l count steps true (Rattle.paper.specs.Machine.stop_with rows s)) (sym same)
-          (shows_win taken list (p + 1) rows count long (length taken) asked.carried places seen steps s sh));
-    }
+          subst (λ (m : Move). Shows places (p + 1) seen taken (stored list (21 * count) 0 rows) count steps true (follow visit (at place level rows) m s))
+          (sym (move_win pattern line kind next a n p level rows e (omega (arith, along.within, ahead_none (subst (AheadIn line p) (no_byte ahead end) along)))))
+          (shows_win taken list (p + 1) rows count long (length taken) asked.carried places seen steps s sh);
+    })
 
-    settles_stay : ((line : List ℕ) → AheadIn line p there byte → (level : ℕ) → move_at (place_of pattern kind next a n) line p level rows ≡ Move.die)
-        → Settles pattern there byte p kind next a n rows taken list count taken list count false
+    settles_stay : ((line : List ℕ) → AheadIn line p ahead → (level : ℕ) → move_at (place_of pattern kind next a n) line p level rows ≡ Move.die)
+        → Settles pattern ahead p kind next a n rows taken list count taken list count false
     settles_stay dies = record {
       carried = asked.carried;
       shows = λ line along places seen steps place level visit s sh.
           subst (λ (m : Move). Shows places (p + 1) seen taken list count steps false (follow visit (at place level rows) m s)) (sym (dies line along level)) sh;
     }
 
-    pub settles_early : kind ≡ 9 → there ≡ true → Settles pattern there byte p kind next a n rows taken list count taken list count false
+    pub settles_early : kind ≡ 9 → is_none ahead ≡ false → Settles pattern ahead p kind next a n rows taken list count taken list count false
     settles_early e more =
-        settles_stay (λ line along level. move_early pattern line kind next a n p level rows e
-        (λ same. omega (arith, ltb-true p (length line) (sym along.is_there ∙ more))))
+        settles_stay (λ line along level. move_early pattern line kind next a n p level rows e (λ same. omega (arith, ahead_some along (some_byte ahead more))))
 
-    pub settles_die : (kind ≡ 9 → ⊥) → (r : Bool) → Eats pattern there byte kind a n r → r ≡ false
-        → Settles pattern there byte p kind next a n rows taken list count taken list count false
+    pub settles_die : (kind ≡ 9 → ⊥) → (r : Bool) → Eats pattern ahead kind a n r → r ≡ false
+        → Settles pattern ahead p kind next a n rows taken list count taken list count false
     settles_die other r eats e =
         settles_stay (λ line along level. move_die pattern line kind next a n p level rows asked.last other (sym (eats.takes_it line p next along) ∙ e))

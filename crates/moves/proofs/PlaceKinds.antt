@@ -7,7 +7,8 @@ use native.Mathlib.Omega.{arith}
 use native.Mathlib.Decide.{ℕ_discrete}
 use native.Mathlib.Nat.{suc-mul, zero-mul, one-mul, add-mul}
 use native.Mathlib.Numerals.{add-one}
-use borrow.Author.Tests.{ne_eqb, eqb-true, ltb-false}
+use borrow.Author.Tests.{ne_eqb, eq-eqb, eqb-true}
+use Rattle.std.specs.Prelude.{Option, Some, None, is_some, IsSome, IfSome}
 use lib.Dec.{eqb, leb, eqb-suc-zero}
 use lib.ListN.{length, set, length-set}
 use Rattle.paper.specs.Pattern.{Range}
@@ -19,7 +20,7 @@ use Rattle.paper.specs.Tables.{place_of}
 use Rattle.paper.proofs.reading.RowLaws.{length_clear}
 use Rattle.moves.specs.Shows.{AheadIn}
 use Rattle.moves.specs.Moves.{level_after, Slots, takes_at, Eats, Leads}
-use Rattle.moves.proofs.Ranges.{takes_ahead, takes_none, or_false}
+use Rattle.moves.proofs.Ranges.{ahead_none, takes_ahead, takes_none, or_false}
 
 -- ---- the byte that a place takes
 
@@ -66,43 +67,42 @@ eats_none pattern line kind next a n p h6 h7 =
     (λ x y m. Place.fork x y) (λ x y m. Place.opening y x) (λ x y m. Place.closing y x) (λ x y m. Place.begin y m x)
     (λ x y m. Place.begin_optional y m x) (λ x y m. Place.ending x) next a n line p refl refl refl refl refl refl)
 
-module _ (pattern : List ℕ) (there : Bool) (byte kind a n : ℕ) where
+module _ (pattern : List ℕ) (kind a n : ℕ) where
   -- it takes none
-  eats_not : ((line : List ℕ) (p next : ℕ) → AheadIn line p there byte → false ≡ takes_at (place_of pattern kind next a n) line p)
-      → Eats pattern there byte kind a n false
-  eats_not none = record {
+  eats_not : (ahead : Option ℕ) → ((line : List ℕ) (p next : ℕ) → AheadIn line p ahead → false ≡ takes_at (place_of pattern kind next a n) line p)
+      → Eats pattern ahead kind a n false
+  eats_not ahead none = record {
     leads = λ e. let one : ◌≡◌ {A = ℕ} 0 1 = ap (λ (b : Bool). cond b 1 0) e in absurd (omega arith);
     takes_it = none;
   }
 
   -- at the line's end
-  pub eats_end : there ≡ false → Eats pattern there byte kind a n false
-  eats_end e =
-      eats_not (λ line p next along. sym (takes_nothing (place_of pattern kind next a n) line p (ltb-false p (length line) (sym along.is_there ∙ e))))
+  pub eats_end : Eats pattern None kind a n false
+  eats_end = eats_not None (λ line p next along. sym (takes_nothing (place_of pattern kind next a n) line p (ahead_none along)))
 
   -- because it is of another kind
-  pub eats_other : (kind ≡ 6 → ⊥) → (kind ≡ 7 → ⊥) → Eats pattern there byte kind a n false
-  eats_other n6 n7 = eats_not (λ line p next along. eats_none pattern line kind next a n p n6 n7)
+  pub eats_other : (ahead : Option ℕ) → (kind ≡ 6 → ⊥) → (kind ≡ 7 → ⊥) → Eats pattern ahead kind a n false
+  eats_other ahead n6 n7 = eats_not ahead (λ line p next along. eats_none pattern line kind next a n p n6 n7)
 
   -- a set takes the byte that is there, if it holds it
-  eats_held : (k : ℕ) → k < 8 → (ranges : List Range) → ((next : ℕ) → place_of pattern k next a n ≡ Place.one_of ranges next) → kind ≡ k → there ≡ true
-      → (r : Bool) → r ≡ in_set ranges byte → Eats pattern there byte kind a n r
-  eats_held k low ranges is_set e h r held = record {
+  eats_held : (byte k : ℕ) → k < 8 → (ranges : List Range) → ((next : ℕ) → place_of pattern k next a n ≡ Place.one_of ranges next) → kind ≡ k
+      → (r : Bool) → r ≡ in_set ranges byte → Eats pattern (Some byte) kind a n r
+  eats_held byte k low ranges is_set e r held = record {
     leads = λ f. omega arith;
     takes_it = λ line p next along.
         held
-        ∙ (sym (takes_ahead ranges line p there byte along h)
+        ∙ (sym (takes_ahead ranges line p byte along)
         ∙ (ap (λ (x : Place). takes_at x line p) (sym (is_set next)) ∙ ap (λ (j : ℕ). takes_at (place_of pattern j next a n) line p) (sym e)));
   }
 
   -- a set of the pattern
-  pub eats_set : kind ≡ 6 → there ≡ true → (r : Bool) → r ≡ in_set (ranges_of (part pattern a (a + 2 * n))) byte → Eats pattern there byte kind a n r
-  eats_set = eats_held 6 (omega arith) (ranges_of (part pattern a (a + 2 * n))) (λ next. refl)
+  pub eats_set : (byte : ℕ) → kind ≡ 6 → (r : Bool) → r ≡ in_set (ranges_of (part pattern a (a + 2 * n))) byte → Eats pattern (Some byte) kind a n r
+  eats_set byte = eats_held byte 6 (omega arith) (ranges_of (part pattern a (a + 2 * n))) (λ next. refl)
 
   -- a range
-  pub eats_range : kind ≡ 7 → there ≡ true → (r : Bool) → r ≡ (leb a byte && leb byte n) → Eats pattern there byte kind a n r
-  eats_range e h r held =
-      eats_held 7 (omega arith) (record { low = a; high = n } ∷ []) (λ next. refl) e h r (held ∙ sym (or_false (leb a byte && leb byte n)))
+  pub eats_range : (byte : ℕ) → kind ≡ 7 → (r : Bool) → r ≡ (leb a byte && leb byte n) → Eats pattern (Some byte) kind a n r
+  eats_range byte e r held =
+      eats_held byte 7 (omega arith) (record { low = a; high = n } ∷ []) (λ next. refl) e r (held ∙ sym (or_false (leb a byte && leb byte n)))
 
 -- ---- where a place leads at once
 
@@ -115,34 +115,34 @@ floor_zero places floor (suc level) some e =
 
 module _ (kind a n p places floor : ℕ) (rows : Rows) where
   -- a place of this kind, whose move is known, on the level of the floor
-  leads_known : (k : ℕ) → kind ≡ k → (goes : Bool) (floor' : ℕ) (rows' : Rows) → length rows' ≡ length rows → (k ≡ 5 → goes ≡ true → floor ≡ 0)
-      → ((level : ℕ) → floor ≡ level * places → floor' ≡ level_after k level * places)
+  leads_known : (k : ℕ) → kind ≡ k → (led : Option ℕ) (rows' : Rows) → length rows' ≡ length rows → (k ≡ 5 → IsSome led → floor ≡ 0)
+      → ((level : ℕ) → floor ≡ level * places → IfSome led (λ f. f ≡ level_after k level * places))
       → ((level : ℕ) → floor ≡ level * places → (pattern line : List ℕ) (next place : ℕ) (visit : Thread → State → State) (s : State)
-      → follow visit (at place level rows) (move_at (place_of pattern k next a n) line p level rows) s ≡ cond goes (visit (at next (level_after k level) rows') s) s)
-      → Leads kind a n p places floor rows goes floor' rows'
-  leads_known k e goes floor' rows' same ended raised followed =
-      subst (λ (j : ℕ). Leads j a n p places floor rows goes floor' rows') (sym e) (record { same_long = same; ends = ended; raises = raised; follows = followed })
+      → follow visit (at place level rows) (move_at (place_of pattern k next a n) line p level rows) s ≡ cond (is_some led) (visit (at next (level_after k level) rows') s) s)
+      → Leads kind a n p places floor rows led rows'
+  leads_known k e led rows' same ended raised followed =
+      subst (λ (j : ℕ). Leads j a n p places floor rows led rows') (sym e) (record { same_long = same; ends = ended; raises = raised; follows = followed })
 
   -- open
-  pub leads_open : kind ≡ 1 → Leads kind a n p places floor rows true floor (set rows (2 * a) p)
+  pub leads_open : kind ≡ 1 → Leads kind a n p places floor rows (Some floor) (set rows (2 * a) p)
   leads_open e =
-      leads_known 1 e true floor (set rows (2 * a) p) (length-set rows (2 * a) p) (λ h g. omega arith) (λ level h. h) (λ level h pattern line next place visit s. refl)
+      leads_known 1 e (Some floor) (set rows (2 * a) p) (length-set rows (2 * a) p) (λ h g. omega arith) (λ level h. h) (λ level h pattern line next place visit s. refl)
 
   -- close
-  pub leads_close : kind ≡ 2 → Leads kind a n p places floor rows true floor (set rows (2 * a + 1) p)
+  pub leads_close : kind ≡ 2 → Leads kind a n p places floor rows (Some floor) (set rows (2 * a + 1) p)
   leads_close e =
-      leads_known 2 e true floor (set rows (2 * a + 1) p) (length-set rows (2 * a + 1) p) (λ h g. omega arith) (λ level h. h) (λ level h pattern line next place visit s. refl)
+      leads_known 2 e (Some floor) (set rows (2 * a + 1) p) (length-set rows (2 * a + 1) p) (λ h g. omega arith) (λ level h. h) (λ level h pattern line next place visit s. refl)
 
   -- begin
-  pub leads_begin : (rows' : Rows) → rows' ≡ clear a n rows → kind ≡ 3 → Leads kind a n p places floor rows true floor rows'
+  pub leads_begin : (rows' : Rows) → rows' ≡ clear a n rows → kind ≡ 3 → Leads kind a n p places floor rows (Some floor) rows'
   leads_begin rows' same e =
-      leads_known 3 e true floor rows' (ap length same ∙ length_clear n a rows) (λ h g. omega arith) (λ level h. h)
+      leads_known 3 e (Some floor) rows' (ap length same ∙ length_clear n a rows) (λ h g. omega arith) (λ level h. h)
       (λ level h pattern line next place visit s. ap (λ (r : Rows). visit (at next level r) s) (sym same))
 
   -- begin optional
-  pub leads_begin_optional : (rows' : Rows) → rows' ≡ clear a n rows → kind ≡ 4 → Leads kind a n p places floor rows true (floor + places) rows'
+  pub leads_begin_optional : (rows' : Rows) → rows' ≡ clear a n rows → kind ≡ 4 → Leads kind a n p places floor rows (Some (floor + places)) rows'
   leads_begin_optional rows' same e =
-      leads_known 4 e true (floor + places) rows' (ap length same ∙ length_clear n a rows) (λ h g. omega arith)
+      leads_known 4 e (Some (floor + places)) rows' (ap length same ∙ length_clear n a rows) (λ h g. omega arith)
       (λ level h. omega (arith, add-mul level 1 places, one-mul places))
       (λ level h pattern line next place visit s.
       ap (λ (r : Rows). visit (at next (suc level) r) s) (sym same) ∙ ap (λ (l : ℕ). visit (at next l rows') s) (sym (add-one level)))
@@ -153,11 +153,22 @@ module _ (kind a n p places floor : ℕ) (rows : Rows) where
   at_zero false next place level visit s = refl
 
   -- end
-  pub leads_end : 0 < places → kind ≡ 5 → Leads kind a n p places floor rows (eqb floor 0) 0 rows
-  leads_end some e =
-      leads_known 5 e (eqb floor 0) 0 rows refl (λ h g. eqb-true floor 0 g) (λ level h. sym (zero-mul places))
+  end_known : 0 < places → kind ≡ 5 → (led : Option ℕ) → is_some led ≡ eqb floor 0 → IfSome led (λ f. f ≡ 0) → Leads kind a n p places floor rows led rows
+  end_known some e led goes bottom =
+      leads_known 5 e led rows refl (λ h g. eqb-true floor 0 (sym goes ∙ g)) (λ level h. end_floor led level bottom)
       (λ level h pattern line next place visit s.
-      at_zero (eqb level 0) next place level visit s ∙ ap (λ (b : Bool). cond b (visit (at next 0 rows) s) s) (sym (floor_zero places floor level some h)))
+      at_zero (eqb level 0) next place level visit s
+      ∙ ap (λ (b : Bool). cond b (visit (at next 0 rows) s) s) (sym (goes ∙ floor_zero places floor level some h)))
+    where
+      end_floor : (led : Option ℕ) (level : ℕ) → IfSome led (λ f. f ≡ 0) → IfSome led (λ f. f ≡ 0 * places)
+      end_floor None level h = tt
+      end_floor (Some f) level h = h ∙ sym (zero-mul places)
+
+  pub leads_end : 0 < places → kind ≡ 5 → floor ≡ 0 → Leads kind a n p places floor rows (Some 0) rows
+  leads_end some e none = end_known some e (Some 0) (sym (eq-eqb floor 0 none)) refl
+
+  pub leads_nowhere : 0 < places → kind ≡ 5 → (floor ≡ 0 → ⊥) → Leads kind a n p places floor rows None rows
+  leads_nowhere some e high = end_known some e None (sym (ne_eqb floor 0 high)) tt
 
 -- the rows that a begin clears, optional or not, exist
 pub begin_slots : (kind a n : ℕ) → 0 < kind → kind < 6 → (kind ≡ 1 → ⊥) → (kind ≡ 2 → ⊥) → (kind ≡ 5 → ⊥) → Slots kind a n → a + n ≤ 10

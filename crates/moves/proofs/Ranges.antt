@@ -1,78 +1,81 @@
--- A set's ranges read off the pattern one by one: one turn of the loop is one clause of the definition.
-use Prim.Native.Nat.{ℕ, suc, ◌+◌, ◌-◌, ◌*◌, ◌≤◌, ◌<◌}
+-- The ranges of a set, and the byte ahead that it holds or not.
+use Prim.Native.Nat.{ℕ, zero, suc, ◌+◌, ◌-◌, ◌*◌, ◌/◌, ◌≤◌, ◌<◌}
 use mathlib.Core.Path.{◌≡◌, refl, sym, ap, ◌∙◌}
 use mathlib.Core.Bool.{Bool, true, false, ◌&&◌, ◌||◌}
-use mathlib.Core.List.{List, ◌∷◌}
+use mathlib.Core.List.{List, [], ◌∷◌}
 use native.Mathlib.Omega.{arith}
-use native.Mathlib.Numerals.{add-one}
-use borrow.Author.Tests.{le-leb, lt-leb, le-ltb}
+use native.Mathlib.Decide.{dec_lt}
+use borrow.Author.Tests.{lt-ltb, le-ltb}
 use lib.Dec.{leb}
-use lib.ListN.{length, get_or, take, drop}
-use lib.Seq.{drop-cons}
+use lib.ListN.{length, get_or, drop, length-drop}
+use lib.Seq.{drop-cons, length-take-le}
+use Rattle.std.specs.Prelude.{Option, Some, None, is_none, IsSome}
+use Rattle.std.specs.List.{list_any}
+use Rattle.std.specs.Simd.{first_chunks}
+use Rattle.std.proofs.lemmas.Option.{slice_get_within, slice_get-get_or, get_or_from_slice_get}
 use Rattle.paper.specs.Pattern.{Range}
 use Rattle.paper.specs.Reading.{in_set, takes}
 use Rattle.paper.specs.Check.{ranges_of, part}
 use Rattle.moves.specs.Shows.{AheadIn}
 
--- whether so many ranges from an offset of the pattern hold a byte
-abbrev pub held : List ℕ → ℕ → ℕ → ℕ → Bool
-held pattern p many byte = in_set (ranges_of (part pattern p (p + 2 * many))) byte
+-- whether a range, as two numbers, holds a byte
+abbrev pub holds_byte : ℕ → List ℕ → Bool
+holds_byte byte range = leb (get_or range 0 0) byte && leb byte (get_or range 1 0)
 
-pub held_none : (pattern : List ℕ) (p many byte : ℕ) → many ≤ 0 → held pattern p many byte ≡ false
-held_none pattern p many byte h =
-    let e : p + 2 * many - p ≡ 0 = omega arith in
-    ap (λ (n : ℕ). in_set (ranges_of (take n (drop p pattern))) byte) e
+-- the ranges of a list of so many pairs, one by one
+pub any_range : (k : ℕ) (l : List ℕ) (byte : ℕ) → length l ≡ 2 * k → list_any (holds_byte byte) (first_chunks 2 k l) ≡ in_set (ranges_of l) byte
+any_range zero [] byte e = refl
+any_range zero (x ∷ l) byte e = absurd (omega arith)
+any_range (suc k) [] byte e = absurd (omega arith)
+any_range (suc k) (low ∷ []) byte e = absurd (omega arith)
+any_range (suc k) (low ∷ high ∷ l) byte e = ap (λ (b : Bool). (leb low byte && leb byte high) || b) (any_range k l byte (omega arith))
 
--- the first range, and then the others
-held_more : (pattern : List ℕ) (p many byte : ℕ) → 0 < many → p + 2 * many ≤ length pattern
-    → held pattern p many byte ≡ ((leb (get_or pattern p 0) byte && leb byte (get_or pattern (p + 1) 0)) || held pattern (p + 2) (many - 1) byte)
-held_more pattern p many byte h fits =
-    let e : p + 2 * many - p ≡ suc (suc (p + 2 + 2 * (many - 1) - (p + 2))) = omega arith in
-    let a : p < length pattern = omega arith in
-    let b : suc p < length pattern = omega arith in
-    let two : suc (suc p) ≡ p + 2 = omega arith in
-    ap (λ (n : ℕ). in_set (ranges_of (take n (drop p pattern))) byte) e
-    ∙ (ap (λ (l : List ℕ). in_set (ranges_of (take (suc (suc (p + 2 + 2 * (many - 1) - (p + 2)))) l)) byte)
-    (drop-cons pattern p 0 a ∙ ap (λ (l : List ℕ). get_or pattern p 0 ∷ l) (drop-cons pattern (suc p) 0 b))
-    ∙ (ap (λ (n : ℕ). (leb (get_or pattern p 0) byte && leb byte (get_or pattern (suc p) 0)) || in_set (ranges_of (take (p + 2 + 2 * (many - 1) - (p + 2)) (drop n pattern))) byte) two
-    ∙ ap (λ (n : ℕ). (leb (get_or pattern p 0) byte && leb byte (get_or pattern n 0)) || held pattern (p + 2) (many - 1) byte) (sym (add-one p))))
+-- the pairs of a set's part of the pattern are its ranges
+pub pairs_hold : (pattern : List ℕ) (offset count byte : ℕ) (pairs : List (List ℕ)) → offset + 2 * count ≤ length pattern
+    → pairs ≡ first_chunks 2 (length (part pattern offset (offset + 2 * count)) / 2) (part pattern offset (offset + 2 * count))
+    → list_any (holds_byte byte) pairs ≡ in_set (ranges_of (part pattern offset (offset + 2 * count))) byte
+pairs_hold pattern offset count byte pairs fits pairs_are =
+    let bytes = part pattern offset (offset + 2 * count) in
+    let long : length bytes ≡ 2 * count =
+    length-take-le (offset + 2 * count - offset) (drop offset pattern) (omega (arith, length-drop offset pattern)) ∙ omega arith in
+    let half : length bytes / 2 ≡ count = omega arith in
+    ap (list_any (holds_byte byte)) (pairs_are ∙ ap (λ (k : ℕ). first_chunks 2 k bytes) half) ∙ any_range count bytes byte long
 
--- the first range holds the byte
-pub held_here : (pattern : List ℕ) (p many byte : ℕ) → 0 < many → p + 2 * many ≤ length pattern
-    → get_or pattern p 0 ≤ byte → byte ≤ get_or pattern (p + 1) 0 → held pattern p many byte ≡ true
-held_here pattern p many byte h fits low high =
-    held_more pattern p many byte h fits
-    ∙ (ap (λ (b : Bool). (b && leb byte (get_or pattern (p + 1) 0)) || held pattern (p + 2) (many - 1) byte) (le-leb (get_or pattern p 0) byte low)
-    ∙ ap (λ (b : Bool). b || held pattern (p + 2) (many - 1) byte) (le-leb byte (get_or pattern (p + 1) 0) high))
-
-and_false : (a b : Bool) → b ≡ false → (a && b) ≡ false
-and_false true b h = h
-and_false false b h = refl
-
--- the first range lies above the byte
-pub held_below : (pattern : List ℕ) (p many byte : ℕ) → 0 < many → p + 2 * many ≤ length pattern
-    → byte < get_or pattern p 0 → held pattern p many byte ≡ held pattern (p + 2) (many - 1) byte
-held_below pattern p many byte h fits low =
-    held_more pattern p many byte h fits
-    ∙ ap (λ (b : Bool). (b && leb byte (get_or pattern (p + 1) 0)) || held pattern (p + 2) (many - 1) byte) (lt-leb (get_or pattern p 0) byte low)
-
--- the first range lies below the byte
-pub held_above : (pattern : List ℕ) (p many byte : ℕ) → 0 < many → p + 2 * many ≤ length pattern
-    → get_or pattern (p + 1) 0 < byte → held pattern p many byte ≡ held pattern (p + 2) (many - 1) byte
-held_above pattern p many byte h fits high =
-    held_more pattern p many byte h fits
-    ∙ ap (λ (b : Bool). b || held pattern (p + 2) (many - 1) byte)
-    (and_false (leb (get_or pattern p 0) byte) (leb byte (get_or pattern (p + 1) 0)) (lt-leb byte (get_or pattern (p + 1) 0) high))
+-- the pair at an index holds the byte
+pub holds_here : (byte : ℕ) (pairs : List (List ℕ)) (i : ℕ) → i < length pairs → holds_byte byte (get_or pairs i []) ≡ true → list_any (holds_byte byte) (drop i pairs) ≡ true
+holds_here byte pairs i h held =
+    ap (list_any (holds_byte byte)) (drop-cons pairs i [] h) ∙ ap (λ (b : Bool). b || list_any (holds_byte byte) (drop (suc i) pairs)) held
 
 pub or_false : (b : Bool) → (b || false) ≡ b
 or_false true = refl
 or_false false = refl
 
+-- ---- the byte ahead
+
+pub no_byte : (ahead : Option ℕ) → is_none ahead ≡ true → ahead ≡ None
+no_byte None e = refl
+no_byte (Some byte) e = cc
+
+pub some_byte : (ahead : Option ℕ) → is_none ahead ≡ false → IsSome ahead
+some_byte None e = cc
+some_byte (Some byte) e = refl
+
+pub ahead_some : {line : List ℕ} {p : ℕ} {ahead : Option ℕ} → AheadIn line p ahead → IsSome ahead → p < length line
+ahead_some {line} {p} {ahead = None} along e = cc
+ahead_some {line} {p} {ahead = Some b} along e = slice_get_within line p b (sym along.is_ahead)
+
+pub ahead_none : {line : List ℕ} {p : ℕ} → AheadIn line p None → length line ≤ p
+ahead_none {line} {p} along = look (dec_lt p (length line))
+  where
+    look : Dec (p < length line) → length line ≤ p
+    look (yes h) = let both : None ≡ Some (get_or line p 0) = along.is_ahead ∙ slice_get-get_or line p 0 h in cc
+    look (no h) = omega arith
+
 -- a set takes the byte ahead, if it holds it
-pub takes_ahead : (ranges : List Range) (line : List ℕ) (p : ℕ) (there : Bool) (byte : ℕ) → AheadIn line p there byte → there ≡ true
-    → takes ranges line p ≡ in_set ranges byte
-takes_ahead ranges line p there byte along e =
-    ap (λ (b : Bool). b && in_set ranges (get_or line p 0)) (sym along.is_there ∙ e) ∙ ap (in_set ranges) (sym (along.is_byte e))
+pub takes_ahead : (ranges : List Range) (line : List ℕ) (p byte : ℕ) → AheadIn line p (Some byte) → takes ranges line p ≡ in_set ranges byte
+takes_ahead ranges line p byte along =
+    ap (λ (b : Bool). b && in_set ranges (get_or line p 0)) (lt-ltb p (length line) (ahead_some along refl))
+    ∙ ap (in_set ranges) (get_or_from_slice_get line p byte 0 (sym along.is_ahead))
 
 -- and nothing where there is none
 pub takes_none : (ranges : List Range) (line : List ℕ) (p : ℕ) → length line ≤ p → takes ranges line p ≡ false

@@ -1,5 +1,5 @@
 -- What the small functions of a visit promise: each is the definition's move at a place of some kind, whatever the visit that goes on from there.
-use Rattle.std.specs.Prelude.{ℕ, ◌+◌, ◌*◌, ◌≤◌, ◌<◌, ◌^◌, ◌≡◌, Bool, true, false, cond, List, eqb, length}
+use Rattle.std.specs.Prelude.{ℕ, ◌+◌, ◌*◌, ◌≤◌, ◌<◌, ◌^◌, ◌≡◌, Bool, true, false, cond, List, eqb, length, Option, is_some, IsSome, IfSome}
 use Rattle.paper.specs.Limits.{row_count, absent}
 use Rattle.paper.specs.Rows.{Rows}
 use Rattle.paper.specs.Reading.{takes}
@@ -31,17 +31,17 @@ takes_at (Place.ending next) line p = false
 takes_at Place.accept line p = false
 
 -- whether four numbers take the byte ahead: as the place that they stand for does in every line that has it there
-pub record Eats (pattern : List ℕ) (there : Bool) (byte kind a n : ℕ) (r : Bool) : Type 0 where
+pub record Eats (pattern : List ℕ) (ahead : Option ℕ) (kind a n : ℕ) (r : Bool) : Type 0 where
   pub leads : r ≡ true → kind < stop_place
-  pub takes_it : (line : List ℕ) (p next : ℕ) → AheadIn line p there byte → r ≡ takes_at (place_of pattern kind next a n) line p
+  pub takes_it : (line : List ℕ) (p next : ℕ) → AheadIn line p ahead → r ≡ takes_at (place_of pattern kind next a n) line p
 
--- a place that leads on at once: where to, on which level and with which rows, or that it does not. A level is given by its first entry, its floor
-pub record Leads (kind a n p places floor : ℕ) (rows : Rows) (goes : Bool) (floor' : ℕ) (rows' : Rows) : Type 0 where
+-- a place that leads on at once: on which level and with which rows, or that it does not. A level is given by its first entry, its floor
+pub record Leads (kind a n p places floor : ℕ) (rows : Rows) (led : Option ℕ) (rows' : Rows) : Type 0 where
   pub same_long : length rows' ≡ length rows
-  pub ends : kind ≡ end_place → goes ≡ true → floor ≡ 0
-  pub raises : (level : ℕ) → floor ≡ level * places → floor' ≡ level_after kind level * places
+  pub ends : kind ≡ end_place → IsSome led → floor ≡ 0
+  pub raises : (level : ℕ) → floor ≡ level * places → IfSome led (λ f. f ≡ level_after kind level * places)
   pub follows : (level : ℕ) → floor ≡ level * places → (pattern line : List ℕ) (next place : ℕ) (visit : Thread → State → State) (s : State)
-      → follow visit (at place level rows) (move_at (place_of pattern kind next a n) line p level rows) s ≡ cond goes (visit (at next (level_after kind level) rows') s) s
+      → follow visit (at place level rows) (move_at (place_of pattern kind next a n) line p level rows) s ≡ cond (is_some led) (visit (at next (level_after kind level) rows') s) s
 
 -- what a place that leads nowhere at once asks
 pub record Settling (pattern : List ℕ) (p kind next a n : ℕ) (taken list : List ℕ) (count : ℕ) : Type 0 where
@@ -53,10 +53,10 @@ pub record Settling (pattern : List ℕ) (p kind next a n : ℕ) (taken list : L
   pub carried : Carried (length taken) (p + 1) taken list count
 
 -- what it leaves: the state after its move, whatever is seen, in every line that has this byte ahead
-pub record Settles (pattern : List ℕ) (there : Bool) (byte p kind next a n : ℕ) (rows : Rows) (taken list : List ℕ) (count : ℕ) (taken' list' : List ℕ) (count' : ℕ) (done : Bool)
+pub record Settles (pattern : List ℕ) (ahead : Option ℕ) (p kind next a n : ℕ) (rows : Rows) (taken list : List ℕ) (count : ℕ) (taken' list' : List ℕ) (count' : ℕ) (done : Bool)
     : Type 0 where
   pub carried : Carried (length taken) (p + 1) taken' list' count'
-  pub shows : (line : List ℕ) → AheadIn line p there byte → (places : ℕ) (seen : List ℕ) (steps place level : ℕ) (visit : Thread → State → State) (s : State)
+  pub shows : (line : List ℕ) → AheadIn line p ahead → (places : ℕ) (seen : List ℕ) (steps place level : ℕ) (visit : Thread → State → State) (s : State)
       → Shows places (p + 1) seen taken list count steps false s
       → Shows places (p + 1) seen taken' list' count' steps done
       (follow visit (at place level rows) (move_at (place_of pattern kind next a n) line p level rows) s)

@@ -1,16 +1,15 @@
 -- How the lent tables show a state of the machine at a position: an entry has this position's stamp where a pair is seen or a follower is carried.
 -- The list holds the first thread carried to each follower, in order, and behind them the winner.
-use Rattle.std.specs.Prelude.{ℕ, ◌+◌, ◌*◌, ◌≤◌, ◌<◌, ◌≡◌, Bool, true, cond, List, eqb, ltb, length, get_or}
+use Rattle.std.specs.Prelude.{ℕ, ◌+◌, ◌*◌, ◌≤◌, ◌<◌, ◌≡◌, Bool, cond, List, eqb, length, get_or, Option, slice_get}
 use Rattle.std.proofs.Math.Option.{none, some}
 use Rattle.paper.specs.Machine.{State, is_seen}
 use Rattle.paper.specs.Once.{once, pairs_of}
 use Rattle.threads.specs.Threads.{thread_numbers, rows_in, place_in, threads, lacking, Under}
 
--- what stands in a line at a position inside it or at its end: whether a byte does, and which
-pub record AheadIn (line : List ℕ) (p : ℕ) (there : Bool) (byte : ℕ) : Type 0 where
+-- what stands in a line at a position inside it or at its end: the byte there, if there is one
+pub record AheadIn (line : List ℕ) (p : ℕ) (ahead : Option ℕ) : Type 0 where
   pub within : p ≤ length line
-  pub is_there : there ≡ ltb p (length line)
-  pub is_byte : there ≡ true → byte ≡ get_or line p 0
+  pub is_ahead : ahead ≡ slice_get line p
 
 -- the state that the tables show
 pub record Shows (places stamp : ℕ) (seen taken list : List ℕ) (count steps : ℕ) (done : Bool) (s : State) : Type 0 where

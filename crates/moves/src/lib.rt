@@ -5,9 +5,11 @@ ghost use Rattle.std.specs.Prelude.{◌≡◌, ◌&&◌, ◌+◌, ◌*◌, ◌�
 ghost use Rattle.paper.specs.Reading.{in_set};
 ghost use Rattle.paper.specs.Check.{ranges_of, part};
 ghost use Rattle.paper.specs.Tables.{place_numbers, fork_place, set_place, place_kind_at, place_next_at, place_first_at, place_many_at};
+ghost use Rattle.threads.specs.Memory.{SameMemory};
 ghost use Rattle.moves.specs.Moves.{Slots, Eats, Leads, Settling, Settles};
 
 use pattern::{PlaceKind, Spans};
+use threads::Carried;
 
 // The kinds of place. Those before SET lead on at once: a fork to two places, the others to one.
 pub const FORK: usize = PlaceKind::Fork as usize;
@@ -26,48 +28,41 @@ const RANGE: usize = PlaceKind::Range as usize;
 
 const ACCEPT: usize = PlaceKind::Accept as usize;
 
-// What stands at a position of the line: whether a byte does, and which.
+// A position of the line, with the byte that stands there, if one does.
 #[derive(Clone, Copy)]
-pub struct Ahead {
-    pub there: bool,
-    pub byte: u8,
+pub struct Position {
+    pub at: u16,
+    pub ahead: Option<u8>,
 }
 
 // The four numbers of a place.
 #[derive(Clone, Copy)]
-pub struct Numbers {
+pub struct Place {
     pub kind: usize,
     pub next: usize,
     pub a: usize,
     pub n: usize,
 }
 
-// Where a place leads at once: whether it does, and the floor of the level there.
-#[derive(Clone, Copy)]
-pub struct Onward {
-    pub goes: bool,
-    pub floor: usize,
-}
-
-// What a place that leads nowhere at once leaves: how many threads are carried, and whether a thread has won.
-#[derive(Clone, Copy)]
-pub struct Settled {
-    pub count: usize,
-    pub done: bool,
-}
-
-// The numbers of a place.
-pub fn numbers_of(code: &[u16], place: usize) -> Numbers
-    requires { place_numbers * place + 3 < length code.now }
-    ensures { (result.kind ≡ place_kind_at code.now place) × (result.next ≡ place_next_at code.now place) × (result.a ≡ place_first_at code.now place) × (result.n ≡ place_many_at code.now place) }
+// The place at an index of a table.
+pub fn place_at(code: &[u16], index: usize) -> Place
+    requires { place_numbers * index + 3 < length code.now }
+    ensures { (result.kind ≡ place_kind_at code.now index) × (result.next ≡ place_next_at code.now index) × (result.a ≡ place_first_at code.now index) × (result.n ≡ place_many_at code.now index) }
 {
-    let b = PlaceKind::NUMBERS * place;
-    Numbers {
-        kind: threads::wide(code[b]),
-        next: threads::wide(code[b + 1]),
-        a: threads::wide(code[b + 2]),
-        n: threads::wide(code[b + 3]),
+    let b = PlaceKind::NUMBERS * index;
+    Place {
+        kind: usize::from(code[b]),
+        next: usize::from(code[b + 1]),
+        a: usize::from(code[b + 2]),
+        n: usize::from(code[b + 3]),
     }
+}
+
+// Whether a byte lies between two numbers.
+fn in_range(low: usize, high: usize, byte: u8) -> bool
+    ensures { result ≡ (leb low byte && leb byte high) }
+{
+    (low..=high).contains(&usize::from(byte))
 }
 
 // Whether ranges of the pattern, left to right, hold a byte.
@@ -75,110 +70,79 @@ fn in_set(pattern: &[u8], offset: usize, count: usize, byte: u8) -> bool
     requires { offset + 2 * count ≤ length pattern.now }
     ensures { result ≡ in_set (ranges_of (part pattern.now offset (offset + 2 * count))) byte }
 {
-    let mut p = offset;
-    let mut many = count;
-    while 0 < many {
-        if pattern[p] <= byte {
-            if byte <= pattern[p + 1] {
-                return true;
-            }
+    let (ranges, _) = pattern[offset..offset + 2 * count].as_chunks::<2>();
+    for &[low, high] in ranges {
+        if in_range(usize::from(low), usize::from(high), byte) {
+            return true;
         }
-        p = p + 2;
-        many = many - 1;
     }
     false
-}
-
-// Whether a byte lies between two numbers.
-fn in_range(low: usize, high: usize, byte: u8) -> bool
-    ensures { result ≡ (leb low byte && leb byte high) }
-{
-    let b = byte as usize;
-    if low <= b { b <= high } else { false }
 }
 
 // Whether a place takes the byte ahead: it has a range, or a set of the pattern.
-fn eats(pattern: &[u8], ahead: Ahead, kind: usize, a: usize, n: usize) -> bool
-    requires { kind ≡ set_place → a + 2 * n ≤ length pattern.now }
-    ensures { Eats pattern.now ahead.there ahead.byte kind a n result }
+fn eats(pattern: &[u8], ahead: Option<u8>, here: Place) -> bool
+    requires { here.kind ≡ set_place → here.a + 2 * here.n ≤ length pattern.now }
+    ensures { Eats pattern.now ahead here.kind here.a here.n result }
 {
-    if ahead.there {
-        if kind == RANGE {
-            return in_range(a, n, ahead.byte);
-        }
-        if kind == SET {
-            return in_set(pattern, a, n, ahead.byte);
-        }
+    let Some(byte) = ahead else {
+        return false;
+    };
+    match here.kind {
+        RANGE => in_range(here.a, here.n, byte),
+        SET => in_set(pattern, here.a, here.n, byte),
+        _ => false,
     }
-    false
 }
 
 // A place that leads on at once, after FORK up to END: open, close, begin, begin optional, end. It changes the rows where they stand.
+// The floor of the level that it leads to, unless it is an end above level 0, which leads nowhere.
 pub fn lead(
-    kind: usize,
-    a: usize,
-    n: usize,
+    here: Place,
     at: u16,
     floor: usize,
     places: usize,
     rows: &mut [u16; Spans::NUMBERS],
-) -> Onward
-    requires { (fork_place < kind) × (kind < set_place) × (floor + places < 2 ^ 64) × (0 < places) × Slots kind a n }
-    ensures { Leads kind a n at places floor rows.old result.goes result.floor rows.new }
+) -> Option<usize>
+    requires { (fork_place < here.kind) × (here.kind < set_place) × (floor + places < 2 ^ 64) × (0 < places) × Slots here.kind here.a here.n }
+    ensures { Leads here.kind here.a here.n at places floor rows.old result rows.new }
 {
-    if kind == OPEN {
-        rows[2 * a] = at;
-        return Onward { goes: true, floor };
+    match here.kind {
+        OPEN => {
+            rows[2 * here.a] = at;
+            Some(floor)
+        }
+        CLOSE => {
+            rows[2 * here.a + 1] = at;
+            Some(floor)
+        }
+        END => (floor == 0).then_some(0),
+        _ => {
+            threads::clear_rows(rows, here.a, here.n);
+            let raised = here.kind == BEGIN_OPTIONAL;
+            Some(if raised { floor + places } else { floor })
+        }
     }
-    if kind == CLOSE {
-        rows[2 * a + 1] = at;
-        return Onward { goes: true, floor };
-    }
-    if kind == END {
-        return Onward {
-            goes: floor == 0,
-            floor: 0,
-        };
-    }
-    threads::clear_rows(rows, a, n);
-    if kind == BEGIN_OPTIONAL {
-        return Onward {
-            goes: true,
-            floor: floor + places,
-        };
-    }
-    Onward { goes: true, floor }
 }
 
-// A place that leads nowhere at once, from SET on: a set, stop, accept. The winner is stored behind the carried threads, uncounted.
+// A place that leads nowhere at once, from SET on: a set, stop, accept. Whether the thread wins.
 pub fn settle(
     pattern: &[u8],
-    taken: &mut [u16],
-    list: &mut [u16],
-    here: Numbers,
-    ahead: Ahead,
-    at: u16,
-    groups: [u16; Spans::NUMBERS],
-    count: usize,
-) -> Settled
-    requires { Settling pattern.now at here.kind here.next here.a here.n taken.old list.old count }
-    ensures { Settles pattern.now ahead.there ahead.byte at here.kind here.next here.a here.n groups taken.old list.old count taken.new list.new result.count result.done }
+    carried: &mut Carried,
+    here: Place,
+    position: Position,
+    rows: [u16; Spans::NUMBERS],
+) -> bool
+    requires { Settling pattern.now position.at here.kind here.next here.a here.n carried.old.taken.now carried.old.list.now carried.old.count }
+    ensures same_memory { SameMemory carried.old carried.new }
+    ensures settles { Settles pattern.now position.ahead position.at here.kind here.next here.a here.n rows carried.old.taken.now carried.old.list.now carried.old.count carried.new.taken.now carried.new.list.now carried.new.count result }
 {
-    let kind = here.kind;
-    if eats(pattern, ahead, kind, here.a, here.n) {
-        let carried = threads::carry(taken, list, here.next, at + 1, groups, count);
-        Settled {
-            count: carried,
-            done: false,
-        }
-    } else if kind == ACCEPT {
-        if ahead.there {
-            Settled { count, done: false }
-        } else {
-            threads::store(list, threads::THREAD * count, 0, groups);
-            Settled { count, done: true }
-        }
-    } else {
-        Settled { count, done: false }
+    if eats(pattern, position.ahead, here) {
+        carried.carry(here.next, position.at + 1, rows);
+        return false;
     }
+    if here.kind == ACCEPT && position.ahead.is_none() {
+        carried.win(rows);
+        return true;
+    }
+    false
 }

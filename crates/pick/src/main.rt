@@ -33,7 +33,7 @@ fn all_lines(
         };
         let line = &bytes[body.start..body.end];
         let ran = machine.match_rows(line, scratch);
-        job::print_line(p, number, ran.rows, ran.steps, groups);
+        job::print_line(p, number, ran.rows, u64::from(ran.steps), groups);
         if p.failed() {
             return Ok(());
         }

@@ -42,22 +42,31 @@ impl Printer {
     }
 
     // What a match or a search found: its rows, if there is a match, and the steps.
-    pub fn outcome(&mut self, rows: Option<[u16; Spans::NUMBERS]>, steps: u32, groups: usize)
+    pub fn outcome(&mut self, rows: Option<[u16; Spans::NUMBERS]>, steps: u64, groups: usize)
         ensures { Gathered self.old self.new }
     {
         self.bytes(if rows.is_some() { b"whole " } else { b"none " });
-        self.decimal(u64::from(steps));
+        self.decimal(steps);
         if let Some(table) = rows {
             self.rows(table, groups);
         }
     }
 
     // What a whole match or a search answers: a refusal, or what it found.
-    pub fn found(&mut self, answer: Result<Found, Refused>, table: [u16; Spans::NUMBERS], groups: usize)
+    pub fn found(
+        &mut self,
+        answer: Result<Found, Refused>,
+        table: [u16; Spans::NUMBERS],
+        groups: usize,
+    )
         ensures { Gathered self.old self.new }
     {
         match answer {
-            Ok(found) => self.outcome(found.matched.then_some(table), found.steps, groups),
+            Ok(found) => self.outcome(
+                found.matched.then_some(table),
+                u64::from(found.steps),
+                groups,
+            ),
             Err(refused) => self.refusal(refused),
         }
     }

@@ -47,7 +47,7 @@ fn print_lines(lines: &[u8], pattern: &[u8], groups: usize, p: &mut Printer) -> 
         let mut rows = Spans::absent_table();
         match matcher::whole_match(pattern, &lines[start..end], &mut rows) {
             Ok(Found { matched, steps }) => {
-                job::print_line(p, number, matched.then_some(rows), steps, groups);
+                job::print_line(p, number, matched.then_some(rows), u64::from(steps), groups);
             }
             Err(refused) => job::print_refused(p, refused),
         }

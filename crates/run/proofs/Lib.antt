@@ -1,6 +1,3 @@
--- The laws that the answers cite: of the threads at one position, and of the positions.
-pub mod Lists
+-- The laws that the answers cite, by topic.
 pub mod Walk
-pub mod Pace
 pub mod Position
-pub mod Course

@@ -1,18 +1,12 @@
 -- What a position asks and promises, and what a run does: the definition's, for the places that the table stands for.
-use Rattle.std.specs.Prelude.{ℕ, suc, ◌+◌, ◌-◌, ◌*◌, ◌≤◌, ◌<◌, ◌^◌, ◌≡◌, Bool, cond, List, [], ◌∷◌, length, take, drop, Option, Some, None}
+use Rattle.std.specs.Prelude.{ℕ, suc, ◌+◌, ◌-◌, ◌*◌, ◌≤◌, ◌<◌, ◌^◌, ◌≡◌, Bool, List, [], ◌∷◌, length, Option, Some, None}
 use Rattle.paper.specs.Limits.{line_bytes, absent}
 use Rattle.paper.specs.Rows.{Rows, no_rows}
 use Rattle.paper.specs.Machine.{at, fresh, visits, run, Stopped}
 use Rattle.paper.specs.Tables.{decode}
 use Rattle.threads.specs.Threads.{thread_numbers, branch_numbers, place_in, threads, Under}
-use Rattle.moves.specs.Shows.{Shows, Carried}
+use Rattle.moves.specs.Shows.{AheadIn, Shows, Carried}
 use Rattle.visit.specs.Wired.{Wired}
-
--- one of two lists that stand one behind the other
-abbrev pub list_of : ℕ → Bool → List ℕ → List ℕ
-list_of places second lists =
-    let long = thread_numbers * (places + 1) in
-    take long (drop (cond second long 0) lists)
 
 -- what a position asks: safe tables without its stamp, threads inside, room for those that they carry and for the branches that wait, and room to count
 pub record Stepping (code pattern : List ℕ) (places p : ℕ) (seen taken threads : List ℕ) (number : ℕ) (list pending : List ℕ) (steps : ℕ) : Type 0 where
@@ -29,13 +23,13 @@ pub record Stepping (code pattern : List ℕ) (places p : ℕ) (seen taken threa
   pub pending_long : branch_numbers * (2 * places) ≤ length pending
   pub countable : steps + length seen < 2 ^ 32
 
--- what it promises: the tables show the state after the definition's visits of the threads, if its bound is above the number of pairs
-pub record Steps (code pattern line : List ℕ) (places p : ℕ) (seen taken from : List ℕ) (number steps : ℕ)
+-- what it promises: the tables show the state after the definition's visits of the threads, in every line that has this byte ahead, if its bound is above the number of pairs
+pub record Steps (code pattern : List ℕ) (ahead : Option ℕ) (places p : ℕ) (seen from : List ℕ) (number steps : ℕ)
     (seen' taken' list' : List ℕ) (count steps' : ℕ) (done : Bool) : Type 0 where
   pub under : Under (p + 1) seen'
   pub carried : Carried places (p + 1) taken' list' count
   pub bounded : steps' ≤ steps + length seen
-  pub shows : (k : ℕ) → length seen < k
+  pub shows : (line : List ℕ) → AheadIn line p ahead → (k : ℕ) → length seen < k
       → Shows places (p + 1) seen' taken' list' count steps' done (visits k (decode code pattern places) line p (threads from number) (fresh steps))
 
 -- what a run asks: safe tables of the sizes that the limits allow, two lists of threads, and room for the branches that wait

@@ -1,14 +1,15 @@
 // The positions of the line one after the other: the threads of a list visited in order, and those that they carry.
 #![tactic(auto)]
 
-ghost use Rattle.std.specs.Prelude.{◌≡◌, not, cond, ◌&&◌, ◌+◌, ◌*◌, ◌≤◌, ◌<◌, ltb, length};
-ghost use Rattle.threads.specs.Threads.{thread_numbers};
-ghost use Rattle.moves.specs.Shows.{AheadIn};
-ghost use Rattle.run.specs.Steps.{list_of, Stepping, Steps, Running, Runs};
+ghost use Rattle.std.specs.Prelude.{◌≡◌, length};
+ghost use Rattle.visit.specs.Visits.{SameTables};
+ghost use Rattle.run.specs.Steps.{Stepping, Steps, Running, Runs};
 
-use moves::Ahead;
+use moves::Position;
 use pattern::Spans;
-use visit::Visited;
+use std::mem;
+use threads::Carried;
+use visit::{State, Table};
 
 // How the machine stopped: the steps made, and the winner's rows where it matched.
 #[derive(Clone, Copy)]
@@ -17,152 +18,80 @@ pub struct Ran {
     pub rows: Option<[u16; Spans::NUMBERS]>,
 }
 
-// Whether another thread is to be visited.
-fn more(done: bool, i: usize, number: usize) -> bool
-    ensures { result ≡ (not done && ltb i number) }
-{
-    if done { false } else { i < number }
-}
-
-// Where the first or the second of two lists begins.
-fn list_at(second: bool, long: usize) -> usize
-    ensures { result ≡ cond second long 0 }
-{
-    if second { long } else { 0 }
-}
-
-// What stands at a position of the line: the threads there all ask for it.
-fn ahead_at(line: &[u8], at: u16) -> Ahead
-    requires { at ≤ length line.now }
-    ensures { AheadIn line.now at result.there result.byte }
-{
-    let p = threads::wide(at);
-    if p < line.len() {
-        Ahead {
-            there: true,
-            byte: line[p],
-        }
-    } else {
-        Ahead {
-            there: false,
-            byte: 0,
-        }
-    }
-}
-
-// The threads of one of two lists at one position, in order, until one has won. Those that they carry go into the other list.
+// The threads of a list at one position, in order, until one wins; whether one does.
 fn step(
-    code: &[u16],
-    pattern: &[u8],
-    line: &[u8],
-    seen: &mut [u16],
-    taken: &mut [u16],
-    lists: &mut [u16],
-    pending: &mut [u16],
-    second: bool,
+    table: Table,
+    position: Position,
+    threads: &[u16],
     number: usize,
-    places: usize,
-    at: u16,
-    made: u32,
-) -> Visited
-    requires stepping { Stepping code.now pattern.now places at seen.old taken.old (list_of places second lists.old) number (list_of places (not second) lists.old) pending.old made }
-    requires lists_room { 2 * (thread_numbers * (places + 1)) ≤ length lists.old }
-    requires inside { at ≤ length line.now }
-    ensures { Steps code.now pattern.now line.now places at seen.old taken.old (list_of places second lists.old) number made seen.new taken.new (list_of places (not second) lists.new) result.count result.steps result.done }
-{
-    let long = threads::THREAD * (places + 1);
-    let from = list_at(second, long);
-    let to = list_at(!second, long);
-    let end = to + long;
-    let ahead = ahead_at(line, at);
-    let mut i = 0;
-    let mut count = 0;
-    let mut steps = made;
-    let mut done = false;
-    let mut goes = true;
-    while goes {
-        let b = from + threads::THREAD * i;
-        let place = threads::wide(lists[b]);
-        let rows = threads::load(lists, b);
-        let r = visit::visit(
-            code,
-            pattern,
-            seen,
-            taken,
-            &mut lists[to..end],
-            pending,
-            places,
-            ahead,
-            at,
-            place,
-            rows,
-            count,
-            steps,
-        );
-        count = r.count;
-        steps = r.steps;
-        done = r.done;
-        i = i + 1;
-        goes = more(done, i, number);
-    }
-    Visited { count, steps, done }
-}
-
-// Whether the run goes on behind a position: no thread has won, some are carried, and the line has a byte there.
-fn proceeds(done: bool, number: usize, at: usize, end: usize) -> bool
-    ensures { result ≡ (not done && (ltb 0 number && ltb at end)) }
-{
-    if done {
-        false
-    } else if 0 < number {
-        at < end
-    } else {
-        false
-    }
-}
-
-// The machine from a position of the line on, started with one thread at the first place. The two lists are exchanged at each position.
-pub fn run(
-    code: &[u16],
-    pattern: &[u8],
-    line: &[u8],
-    seen: &mut [u16],
-    taken: &mut [u16],
-    lists: &mut [u16],
+    state: &mut State,
     pending: &mut [u16],
-    places: usize,
+) -> bool
+    requires none_carried { state.old.carried.count ≡ 0 }
+    requires stepping { Stepping table.code.now table.pattern.now table.places position.at state.old.seen.now state.old.carried.taken.now threads.now number state.old.carried.list.now pending.old state.old.steps }
+    ensures same_tables { SameTables state.old state.new }
+    ensures steps { Steps table.entry.code.now table.entry.pattern.now position.ahead table.entry.places position.at state.old.seen.now threads.now number state.old.steps state.new.seen.now state.new.carried.taken.now state.new.carried.list.now state.new.carried.count state.new.steps result }
+{
+    for i in 0..number {
+        let thread = threads::thread_at(threads, i);
+        if visit::visit(table, position, thread, state, pending) {
+            return true;
+        }
+    }
+    false
+}
+
+// The machine from a position of the line on, started with one thread at the first place. The threads that one position carries are the next one's.
+pub fn run<'a>(
+    table: Table,
+    line: &[u8],
     start: u16,
+    seen: &'a mut [u16],
+    taken: &'a mut [u16],
+    lists: &'a mut [u16],
+    pending: &mut [u16],
 ) -> Ran
-    requires { Running code.now pattern.now line.now places start seen.old taken.old lists.old pending.old }
-    ensures { Runs code.now pattern.now line.now places start (length seen.old) result.steps result.rows }
+    requires { Running table.code.now table.pattern.now line.now table.places start seen.old taken.old lists.old pending.old }
+    ensures { Runs table.entry.code.now table.entry.pattern.now line.now table.entry.places start (length seen.old) result.steps result.rows }
 {
     seen.fill(0);
     taken.fill(0);
-    let absent = [Spans::ABSENT; Spans::NUMBERS];
-    threads::store(lists, 0, 0, absent);
-    let mut at = start;
+    let long = threads::THREAD * (table.places + 1);
+    let (mut current, list) = lists.split_at_mut(long);
+    threads::store(current, 0, 0, [Spans::ABSENT; Spans::NUMBERS]);
     let mut number = 1;
-    let mut steps = 0;
-    let mut matched = false;
-    let mut second = false;
-    let mut goes = true;
-    while goes {
-        let r = step(
-            code, pattern, line, seen, taken, lists, pending, second, number, places, at, steps,
-        );
-        number = r.count;
-        steps = r.steps;
-        matched = r.done;
-        goes = proceeds(matched, number, threads::wide(at), line.len());
-        at = at + 1;
-        second = !second;
+    let mut state = State {
+        seen,
+        carried: Carried {
+            taken,
+            list,
+            count: 0,
+        },
+        steps: 0,
+    };
+    for p in usize::from(start)..=line.len() {
+        let position = Position {
+            at: p as u16,
+            ahead: line.get(p).copied(),
+        };
+        let wins = step(table, position, current, number, &mut state, pending);
+        let carried = &mut state.carried;
+        mem::swap(&mut current, &mut carried.list);
+        number = carried.count;
+        carried.count = 0;
+        if wins {
+            let winner = threads::thread_at(current, number);
+            return Ran {
+                steps: state.steps,
+                rows: Some(winner.rows),
+            };
+        }
+        if number == 0 {
+            break;
+        }
     }
-    if !matched {
-        return Ran { steps, rows: None };
-    }
-    let b = list_at(second, threads::THREAD * (places + 1)) + threads::THREAD * number;
     Ran {
-        steps,
-        rows: Some(threads::load(lists, b)),
+        steps: state.steps,
+        rows: None,
     }
 }

@@ -1,30 +1,13 @@
 -- Threads in a lent list: what is copied in and out, what a store changes and what it leaves.
 use Prim.Native.Nat.{ℕ, zero, suc, ◌+◌, ◌*◌, ◌≤◌, ◌<◌}
 use mathlib.Core.Path.{◌≡◌, refl, sym, ap, ap₂, ◌∙◌}
-use mathlib.Core.Bool.{Bool, true, false, cond, not}
 use mathlib.Core.List.{List, [], ◌∷◌, ◌++◌}
 use native.Mathlib.Omega.{arith}
-use native.Mathlib.Decide.{ℕ_discrete}
-use borrow.Author.Tests.{not-true, not-false}
-use lib.Dec.{eqb}
 use lib.ListN.{length, get_or, take, drop, set, length-take, length-drop, length-set, length-append, get_or-append}
 use lib.Seq.{get_or-set_same, get_or-set_other, get_or-take, get_or-drop, ext_get_or, length-take-le, length-paste, drop-append-le, drop_at, take_at, take_all}
 use Rattle.paper.specs.Rows.{Rows}
 use Rattle.paper.specs.Machine.{Thread, at}
-use Rattle.threads.specs.Threads.{stored, rows_from, threads, Carries}
-
--- one number more is copied out of a list
-pub copy_more : (rows list : List ℕ) (b j : ℕ) → j < length rows → ((i : ℕ) → i < j → get_or rows i 0 ≡ get_or list (b + i) 0)
-    → (i : ℕ) → i < j + 1 → get_or (set rows j (get_or list (b + j) 0)) i 0 ≡ get_or list (b + i) 0
-copy_more rows list b j inside below i h = look (ℕ_discrete i j)
-  where
-    look : Dec (i ≡ j) → get_or (set rows j (get_or list (b + j) 0)) i 0 ≡ get_or list (b + i) 0
-    look (yes e) =
-        ap (λ (k : ℕ). get_or (set rows j (get_or list (b + j) 0)) k 0) e
-        ∙ (get_or-set_same rows j (get_or list (b + j) 0) 0 inside ∙ ap (λ (k : ℕ). get_or list (b + k) 0) (sym e))
-    look (no ne) =
-        let lt : i < j = omega arith in
-        get_or-set_other rows j i (get_or list (b + j) 0) 0 ne ∙ below i lt
+use Rattle.threads.specs.Threads.{stored, rows_from, threads}
 
 -- what was copied number by number is that part of the list
 pub copied : (rows list : List ℕ) (b : ℕ) → length rows ≡ 20 → b + 20 ≤ length list
@@ -34,30 +17,6 @@ copied rows list b long inside same =
     ext_get_or 0 rows (take 20 (drop b list)) e
     (λ i h. let lt : i < 20 = omega arith in
     same i lt ∙ (sym (get_or-drop b list i 0) ∙ sym (get_or-take 20 (drop b list) i 0 lt)))
-
--- ---- a thread carried
-
-module _ (taken list : List ℕ) (next stamp : ℕ) (rows : Rows) (count : ℕ) (taken' list' : List ℕ) (fresh : Bool)
-    (marked : (fresh ≡ not (eqb (get_or taken next 0) stamp)) × (taken' ≡ set taken next stamp)) where
-  -- to a follower without a mark
-  pub carries_new : fresh ≡ true → list' ≡ stored list (21 * count) next rows → Carries taken list next stamp rows count taken' list' (count + 1)
-  carries_new e kept =
-      let unmarked : eqb (get_or taken next 0) stamp ≡ false = not-true (eqb (get_or taken next 0) stamp) (sym marked.0 ∙ e) in
-      record {
-        marked = marked.1;
-        kept = kept ∙ sym (ap (λ (b : Bool). cond b list (stored list (21 * count) next rows)) unmarked);
-        counted = sym (ap (λ (b : Bool). cond b count (count + 1)) unmarked);
-      }
-
-  -- to a follower that has one
-  pub carries_not : fresh ≡ false → list' ≡ list → Carries taken list next stamp rows count taken' list' count
-  carries_not e kept =
-      let already : eqb (get_or taken next 0) stamp ≡ true = not-false (eqb (get_or taken next 0) stamp) (sym marked.0 ∙ e) in
-      record {
-        marked = marked.1;
-        kept = kept ∙ sym (ap (λ (b : Bool). cond b list (stored list (21 * count) next rows)) already);
-        counted = sym (ap (λ (b : Bool). cond b count (count + 1)) already);
-      }
 
 -- ---- a thread stored
 

@@ -1,9 +1,10 @@
 -- How threads stand in a lent list: for each its place and then its rows. A thread in a list is on level 0. Before a branch that waits stands the first entry of its level.
-use Rattle.std.specs.Prelude.{ℕ, zero, suc, ◌+◌, ◌*◌, ◌≤◌, ◌≡◌, cond, List, [], ◌∷◌, ◌++◌, eqb, get_or, take, drop, set}
+use Rattle.std.specs.Prelude.{ℕ, zero, suc, ◌+◌, ◌*◌, ◌≤◌, ◌≡◌, cond, List, [], ◌∷◌, ◌++◌, eqb, get_or, take, drop, set, Option, Some, None}
 use Rattle.std.proofs.Math.Seq.{paste}
 use Rattle.paper.specs.Limits.{table_numbers}
 use Rattle.paper.specs.Rows.{Rows}
 use Rattle.paper.specs.Machine.{Thread, at}
+use Rattle.threads.specs.declared.Thread as declared
 
 -- how many numbers a thread has in a list
 abbrev pub thread_numbers : ℕ
@@ -53,3 +54,12 @@ pub record Carries (taken list : List ℕ) (next stamp : ℕ) (rows : Rows) (cou
   pub marked : taken' ≡ set taken next stamp
   pub kept : list' ≡ cond (eqb (get_or taken next 0) stamp) list (stored list (thread_numbers * count) next rows)
   pub counted : count' ≡ cond (eqb (get_or taken next 0) stamp) count (count + 1)
+
+-- the branch on top taken from a memory, if one waits
+abbrev pub Pops : List ℕ → ℕ → ℕ → Option declared.Thread → Type 0
+Pops pending count count' None = (count ≡ 0) × (count' ≡ count)
+Pops pending count count' (Some t) =
+    (count ≡ count' + 1)
+    × (t.floor ≡ get_or pending (branch_numbers * count') 0)
+    × (t.place ≡ get_or pending (branch_numbers * count' + 1) 0)
+    × (t.rows ≡ rows_from pending (branch_numbers * count' + 1))

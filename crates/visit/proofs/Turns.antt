@@ -1,19 +1,19 @@
 -- One turn of a visit's loop: what the tables show before it, with what is left to be visited, and what they show after it,
--- for each of the ways round: the pair was seen, the place leads on, it leads nowhere, or it is a fork, whose other branch then waits.
+-- for each of the ways round: the pair was seen, the place leads on, it leads nowhere, a thread wins, or it is a fork, whose other branch then waits.
 use Prim.Native.Nat.{ℕ, zero, suc, ◌+◌, ◌*◌, ◌≤◌, ◌<◌}
 use mathlib.Core.Path.{◌≡◌, refl, sym, ap, ◌∙◌, subst}
-use mathlib.Core.Bool.{Bool, true, false, cond, not, ◌||◌}
+use mathlib.Core.Bool.{Bool, true, false, not, ◌||◌}
 use mathlib.Core.List.{List, [], ◌∷◌}
-use mathlib.Core.Option.{none, some}
 use native.Mathlib.Omega.{arith}
 use borrow.Author.Tests.{not-true, not-false}
+use Rattle.std.specs.Prelude.{Option, Some, None}
 use lib.Dec.{eqb}
 use lib.ListN.{length, get_or, set}
 use Rattle.paper.specs.Rows.{Rows}
 use Rattle.paper.specs.Machine.{Place, Thread, at, State, is_seen, is_won, mark, follow, arrive, visit, move_at}
 use Rattle.paper.specs.Tables.{decode, place_at, place_of, place_kind_at, place_next_at, place_first_at, place_many_at}
 use Rattle.paper.proofs.machine.Once.{visit_blocked}
-use Rattle.threads.specs.Threads.{lacking, rows_in}
+use Rattle.threads.specs.Threads.{lacking}
 use Rattle.moves.specs.Shows.{AheadIn, Shows}
 use Rattle.moves.specs.Moves.{level_after, Leads, Settles}
 use Rattle.threads.proofs.Stamps.{lacking_mark, mark_same}
@@ -25,11 +25,6 @@ use Rattle.visit.proofs.Cells.{decode_at, blocked_shown, shows_mark}
 abbrev pub Unwinds : List Place → List ℕ → ℕ → ℕ → List Thread → State → State → Type 0
 Unwinds code line p unseen [] s final = final ≡ s
 Unwinds code line p unseen (t ∷ ts) s final = (k : ℕ) × (unseen < k) × Unwinds code line p unseen ts (visit k code line p t s) final
-
--- where the loop has ended, nothing is left
-abbrev pub Remains : Bool → List Place → List ℕ → ℕ → ℕ → List Thread → State → State → Type 0
-Remains true code line p unseen ts s final = Unwinds code line p unseen ts s final
-Remains false code line p unseen ts s final = final ≡ s
 
 module _ (code : List Place) (line : List ℕ) (p : ℕ) where
   -- with fewer pairs not seen the bounds still do
@@ -45,23 +40,11 @@ module _ (code : List Place) (line : List ℕ) (p : ℕ) where
       visit_blocked code line p u.0 t s (ap (λ (b : Bool). b || is_seen t.place t.level s.seen) won) in
       unwinds_won unseen ts s final won (subst (λ (after : State). Unwinds code line p unseen ts after final) same u.2)
 
-  -- a thread that goes on, or does not
-  unwinds_lead : (goes : Bool) (unseen k : ℕ) → unseen < k → (t : Thread) (ts : List Thread) (s final : State)
-      → Unwinds code line p unseen ts (cond goes (visit k code line p t s) s) final → Unwinds code line p unseen (cond goes (t ∷ ts) ts) s final
-  unwinds_lead true unseen k h t ts s final u = (k, h, u)
-  unwinds_lead false unseen k h t ts s final u = u
-
-  -- a place that leads nowhere, or wins
-  unwinds_settle : (done : Bool) (unseen : ℕ) (ts : List Thread) (s final : State) (rows : Rows) → s.won ≡ cond done (some rows) none
-      → Unwinds code line p unseen ts s final → Remains (not done) code line p unseen ts s final
-  unwinds_settle true unseen ts s final rows won u = unwinds_won unseen ts s final (ap is_won won) u
-  unwinds_settle false unseen ts s final rows won u = u
-
--- the tables show a state from which what is left of the visit, if anything, gives the final state
-pub record Stands (code pattern line : List ℕ) (places p : ℕ) (seen taken list : List ℕ) (count steps : ℕ) (goes done : Bool) (ts : List Thread) (final : State) : Type 0 where
+-- the tables show a state from which what is left of the visit gives the final state
+pub record Stands (code pattern line : List ℕ) (places p : ℕ) (seen taken list : List ℕ) (count steps : ℕ) (ts : List Thread) (final : State) : Type 0 where
   pub state : State
-  pub shows : Shows places (p + 1) seen taken list count steps done state
-  pub rest : Remains goes (decode code pattern places) line p (lacking (p + 1) seen) ts state final
+  pub shows : Shows places (p + 1) seen taken list count steps false state
+  pub rest : Unwinds (decode code pattern places) line p (lacking (p + 1) seen) ts state final
 
 -- the same after a new pair was marked, before its move is followed
 record Marked (code pattern line : List ℕ) (places p : ℕ) (seen taken list : List ℕ) (count steps x l : ℕ) (rows : Rows) (ts : List Thread) (final : State) : Type 0 where
@@ -84,13 +67,13 @@ read_place code pattern x kind next a n r =
 
 module _ (code pattern line : List ℕ) (places p : ℕ) (seen taken list : List ℕ) (count steps x l : ℕ) (rows : Rows) (ts : List Thread) (final : State)
     (inside : x < places) (room : l * places + x < length seen) (fresh : Bool) (was : fresh ≡ not (eqb (get_or seen (l * places + x) 0) (p + 1)))
-    (s : Stands code pattern line places p seen taken list count steps true false (at x l rows ∷ ts) final) where
+    (s : Stands code pattern line places p seen taken list count steps (at x l rows ∷ ts) final) where
   -- the pair was seen
-  pub stands_seen : fresh ≡ false → Stands code pattern line places p (set seen (l * places + x) (p + 1)) taken list count steps true false ts final
+  pub stands_seen : fresh ≡ false → Stands code pattern line places p (set seen (l * places + x) (p + 1)) taken list count steps ts final
   stands_seen e =
       let stamped : eqb (get_or seen (l * places + x) 0) (p + 1) ≡ true = not-false (eqb (get_or seen (l * places + x) 0) (p + 1)) (sym was ∙ e) in
       let same : set seen (l * places + x) (p + 1) ≡ seen = mark_same (p + 1) seen (l * places + x) stamped in
-      subst (λ (table : List ℕ). Stands code pattern line places p table taken list count steps true false ts final) (sym same)
+      subst (λ (table : List ℕ). Stands code pattern line places p table taken list count steps ts final) (sym same)
       (record {
         state = s.state;
         shows = s.shows;
@@ -143,40 +126,57 @@ module _ (code pattern line : List ℕ) (places p : ℕ) (seen taken list : List
         m.rest
 
     -- the place leads on
-    pub stands_lead : (floor : ℕ) → floor ≡ l * places → (goes : Bool) (floor' : ℕ) (rows' : Rows) → Leads kind a n p places floor rows goes floor' rows'
-        → Stands code pattern line places p (set seen (l * places + x) (p + 1)) taken list count (steps + 1) true false
-        (cond goes (at next (level_after kind l) rows' ∷ ts) ts) final
-    stands_lead floor low goes floor' rows' made =
+    pub stands_lead : (floor : ℕ) → floor ≡ l * places → (floor' : ℕ) (rows' : Rows) → Leads kind a n p places floor rows (Some floor') rows'
+        → Stands code pattern line places p (set seen (l * places + x) (p + 1)) taken list count (steps + 1) (at next (level_after kind l) rows' ∷ ts) final
+    stands_lead floor low floor' rows' made =
         let m = marked new in
-        let t = at next (level_after kind l) rows' in
+        let go = visit m.fuel (decode code pattern places) line p in
         record {
           state = m.state;
           shows = m.shows;
-          rest =
-              unwinds_lead (decode code pattern places) line p goes (lacking (p + 1) (set seen (l * places + x) (p + 1))) m.fuel m.enough t ts m.state final
-              (followed m (cond goes (visit m.fuel (decode code pattern places) line p t m.state) m.state)
-              (made.follows l low pattern line next x (visit m.fuel (decode code pattern places) line p) m.state));
+          rest = (m.fuel, m.enough, followed m (go (at next (level_after kind l) rows') m.state) (made.follows l low pattern line next x go m.state));
+        }
+
+    -- it leads nowhere
+    pub stands_end : (floor : ℕ) → floor ≡ l * places → (rows' : Rows) → Leads kind a n p places floor rows None rows'
+        → Stands code pattern line places p (set seen (l * places + x) (p + 1)) taken list count (steps + 1) ts final
+    stands_end floor low rows' made =
+        let m = marked new in
+        record {
+          state = m.state;
+          shows = m.shows;
+          rest = followed m m.state (made.follows l low pattern line next x (visit m.fuel (decode code pattern places) line p) m.state);
         }
 
     -- the place leads nowhere at once
-    pub stands_settle : (there : Bool) (byte : ℕ) → AheadIn line p there byte → (taken' list' : List ℕ) (count' : ℕ) (done : Bool)
-        → Settles pattern there byte p kind next a n rows taken list count taken' list' count' done
-        → Stands code pattern line places p (set seen (l * places + x) (p + 1)) taken' list' count' (steps + 1) (not done) done ts final
-    stands_settle there byte along taken' list' count' done made =
-        let m = marked new in
-        let after = follow (visit m.fuel (decode code pattern places) line p) (at x l rows) (move_at (place_of pattern kind next a n) line p l rows) m.state in
-        let shown = made.shows line along places (set seen (l * places + x) (p + 1)) (steps + 1) x l (visit m.fuel (decode code pattern places) line p) m.state m.shows in
-        record {
-          state = after;
-          shows = shown;
-          rest =
-              unwinds_settle (decode code pattern places) line p done (lacking (p + 1) (set seen (l * places + x) (p + 1))) ts after final (rows_in list' count')
-              shown.winner (followed m after refl);
-        }
+    module _ {ahead : Option ℕ} (along : AheadIn line p ahead) (taken' list' : List ℕ) (count' : ℕ) where
+      pub stands_settle : Settles pattern ahead p kind next a n rows taken list count taken' list' count' false
+          → Stands code pattern line places p (set seen (l * places + x) (p + 1)) taken' list' count' (steps + 1) ts final
+      stands_settle made =
+          let m = marked new in
+          let go = visit m.fuel (decode code pattern places) line p in
+          let after = follow go (at x l rows) (move_at (place_of pattern kind next a n) line p l rows) m.state in
+          record {
+            state = after;
+            shows = made.shows line along places (set seen (l * places + x) (p + 1)) (steps + 1) x l go m.state m.shows;
+            rest = followed m after refl;
+          }
+
+      -- a winner's state is the final one
+      pub stands_won : Settles pattern ahead p kind next a n rows taken list count taken' list' count' true
+          → Shows places (p + 1) (set seen (l * places + x) (p + 1)) taken' list' count' (steps + 1) true final
+      stands_won made =
+          let m = marked new in
+          let go = visit m.fuel (decode code pattern places) line p in
+          let after = follow go (at x l rows) (move_at (place_of pattern kind next a n) line p l rows) m.state in
+          let shown = made.shows line along places (set seen (l * places + x) (p + 1)) (steps + 1) x l go m.state m.shows in
+          subst (Shows places (p + 1) (set seen (l * places + x) (p + 1)) taken' list' count' (steps + 1) true)
+          (sym (unwinds_won (decode code pattern places) line p (lacking (p + 1) (set seen (l * places + x) (p + 1))) ts after final (ap is_won shown.winner) (followed m after refl)))
+          shown
 
     -- the place is a fork: its other branch waits
     pub stands_fork : kind ≡ 0
-        → Stands code pattern line places p (set seen (l * places + x) (p + 1)) taken list count (steps + 1) true false (at next l rows ∷ at a l rows ∷ ts) final
+        → Stands code pattern line places p (set seen (l * places + x) (p + 1)) taken list count (steps + 1) (at next l rows ∷ at a l rows ∷ ts) final
     stands_fork e =
         let m = marked new in
         let go = visit m.fuel (decode code pattern places) line p in

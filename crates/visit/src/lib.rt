@@ -2,87 +2,77 @@
 // nothing is allocated.
 #![tactic(auto)]
 
-ghost use Rattle.std.specs.Prelude.{List, ℕ};
-ghost use Rattle.moves.specs.Shows.{AheadIn};
-ghost use Rattle.visit.specs.Visits.{Arrives, Visits};
+ghost use Rattle.visit.specs.Visits.{Arrives, SameTables, Visits};
 
-use moves::Ahead;
-use pattern::Spans;
+use moves::Position;
+use threads::{Carried, Thread, Waiting};
 
-// What a visit leaves: how many threads are carried, the steps so far, and whether a thread has won.
+// A table of places, with the pattern that its sets stand in.
 #[derive(Clone, Copy)]
-pub struct Visited {
-    pub count: usize,
-    pub steps: u32,
-    pub done: bool,
+pub struct Table<'a> {
+    pub code: &'a [u16],
+    pub pattern: &'a [u8],
+    pub places: usize,
 }
 
-// A thread on level 0, with all that it leads to at this position. A fork's other branch waits until the preferred one has come to its end.
+// A state of the machine at a position: the pairs that were met, the threads that are carried, and the steps so far.
+#[derive(Drop)]
+pub struct State<'a> {
+    pub seen: &'a mut [u16],
+    pub carried: Carried<'a>,
+    pub steps: u32,
+}
+
+// A thread on level 0, with all that it leads to at this position; whether a thread wins. A fork's other branch waits until the preferred one has come to its end.
 pub fn visit(
-    code: &[u16],
-    pattern: &[u8],
-    seen: &mut [u16],
-    taken: &mut [u16],
-    list: &mut [u16],
+    table: Table,
+    position: Position,
+    start: Thread,
+    state: &mut State,
     pending: &mut [u16],
-    places: usize,
-    ahead: Ahead,
-    at: u16,
-    start: usize,
-    groups: [u16; Spans::NUMBERS],
-    carried: usize,
-    made: u32,
-) -> Visited
-    requires { Arrives code.now pattern.now places at start seen.old taken.old list.old pending.old carried made }
-    ensures { (line : List ℕ) → AheadIn line at ahead.there ahead.byte → Visits code.now pattern.now line places at start groups seen.old taken.old list.old carried made seen.new taken.new list.new result.count result.steps result.done }
+) -> bool
+    requires { Arrives table.code.now table.pattern.now table.places position.at start.place state.old.seen.now state.old.carried.taken.now state.old.carried.list.now pending.old state.old.carried.count state.old.steps }
+    ensures same_tables { SameTables state.old state.new }
+    ensures visits { Visits table.entry.code.now table.entry.pattern.now position.ahead table.entry.places position.at start.place start.rows state.old.seen.now state.old.carried.taken.now state.old.carried.list.now state.old.carried.count state.old.steps state.new.seen.now state.new.carried.taken.now state.new.carried.list.now state.new.carried.count state.new.steps result }
 {
-    let mut place = start;
+    let mut place = start.place;
     let mut floor = 0;
-    let mut rows = groups;
-    let mut count = carried;
-    let mut steps = made;
-    let mut waiting = 0;
-    let mut alive = true;
-    let mut goes = true;
-    let mut done = false;
-    while goes {
-        if alive {
-            if threads::mark(seen, floor + place, at + 1) {
-                steps = steps + 1;
-                let here = moves::numbers_of(code, place);
-                let kind = here.kind;
-                if kind == moves::FORK {
-                    let preferred = here.next;
-                    let other = here.a;
-                    threads::wait(pending, waiting, floor, other, rows);
-                    waiting = waiting + 1;
-                    place = preferred;
-                } else if kind < moves::SET {
-                    let o = moves::lead(kind, here.a, here.n, at, floor, places, &mut rows);
-                    floor = o.floor;
-                    alive = o.goes;
-                    place = here.next;
-                } else {
-                    let s = moves::settle(pattern, taken, list, here, ahead, at, rows, count);
-                    count = s.count;
-                    done = s.done;
-                    goes = !done;
-                    alive = false;
-                }
-            } else {
-                // A pair that was seen is dropped.
-                alive = false;
+    let mut rows = start.rows;
+    let mut waiting = Waiting {
+        numbers: pending,
+        count: 0,
+    };
+    loop {
+        if threads::mark(state.seen, floor + place, position.at + 1) {
+            state.steps += 1;
+            let here = moves::place_at(table.code, place);
+            if here.kind == moves::FORK {
+                let (preferred, other) = (here.next, here.a);
+                waiting.push(Thread {
+                    place: other,
+                    floor,
+                    rows,
+                });
+                place = preferred;
+                continue;
             }
-        } else if 0 < waiting {
-            waiting = waiting - 1;
-            let b = threads::BRANCH * waiting;
-            floor = threads::wide(pending[b]);
-            place = threads::wide(pending[b + 1]);
-            rows = threads::load(pending, b + 1);
-            alive = true;
-        } else {
-            goes = false;
+            if here.kind < moves::SET {
+                let led = moves::lead(here, position.at, floor, table.places, &mut rows);
+                if let Some(level) = led {
+                    floor = level;
+                    place = here.next;
+                    continue;
+                }
+            } else if moves::settle(table.pattern, &mut state.carried, here, position, rows) {
+                return true;
+            }
         }
+        // The thread has come to its end: the branch on top goes on.
+        let Some(branch) = waiting.pop() else {
+            return false;
+        };
+        place = branch.place;
+        floor = branch.floor;
+        rows = branch.rows;
     }
-    Visited { count, steps, done }
 }

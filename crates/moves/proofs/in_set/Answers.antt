@@ -1,24 +1,20 @@
-use Rattle.std.proofs.Common.{sym, ◌∙◌, arith}
-use Rattle.moves.proofs.Ranges.{held_here, held_below, held_above}
+use Rattle.std.proofs.Common.{sym, ap, ap₂, ◌∙◌, ◌&&◌, ℕ}
+use Rattle.std.specs.Prelude.{leb}
+use Rattle.std.specs.List.{list_any}
+use Rattle.std.proofs.lemmas.List.{drop_all}
+use Rattle.moves.proofs.Ranges.{holds_byte, pairs_hold, holds_here}
 use Rattle.moves.proofs.in_set.Goals as goal
-use Rattle.moves.proofs.in_set.Goals.{then-pattern-p+else-byte-pattern, else-pattern-p}
 
-pub returns-then-byte-pattern : goal.returns-then-byte-pattern
-returns-then-byte-pattern c =
-    sym (held_here c.args.pattern.now c.loop-many.p c.loop-many.many c.args.byte c.loop-many-test.true c.loop-many.invariant.0 c.if-pattern-p.true c.if-byte-pattern.true)
-    ∙ c.loop-many.invariant.1
+pub returns-then-in_range : goal.returns-then-in_range
+returns-then-in_range c =
+    let pairs = c.as_chunks.result.0.now in
+    let held = ap₂ (λ (low high : ℕ). leb low c.args.byte && leb c.args.byte high) (sym c.from.ensures) (sym c.from-in-loop-low.ensures)
+    ∙ (sym c.in_range.ensures ∙ c.if-in_range.true) in
+    sym (holds_here c.args.byte pairs c.loop-low.low-index c.loop-low-test.true held)
+    ∙ (c.loop-low.invariant ∙ pairs_hold c.args.pattern.now c.args.offset c.args.count c.args.byte pairs c.requires c.as_chunks.ensures.front)
 
-pub loop-many-preserved : goal.loop-many-preserved
-loop-many-preserved c =
-    elim c.if-pattern-p.branch [
-      | then-pattern-p+else-byte-pattern w ↦ (
-        omega arith,
-        sym (held_above c.args.pattern.now c.loop-many.p c.loop-many.many c.args.byte c.loop-many-test.true c.loop-many.invariant.0 w.if-byte-pattern.false)
-            ∙ c.loop-many.invariant.1,
-      )
-      | else-pattern-p w ↦ (
-        omega arith,
-        sym (held_below c.args.pattern.now c.loop-many.p c.loop-many.many c.args.byte c.loop-many-test.true c.loop-many.invariant.0 w.if-pattern-p.false)
-            ∙ c.loop-many.invariant.1,
-      )
-    ]
+pub returns : goal.returns
+returns c =
+    let pairs = c.as_chunks.result.0.now in
+    sym (ap (list_any (holds_byte c.args.byte)) (drop_all c.loop-low.low-index pairs c.loop-low-test.false))
+    ∙ (c.loop-low.invariant ∙ pairs_hold c.args.pattern.now c.args.offset c.args.count c.args.byte pairs c.requires c.as_chunks.ensures.front)

@@ -1,12 +1,11 @@
--- Each turn is one position and keeps `Course`; the two lists are exchanged.
-use Rattle.std.proofs.Common.{◌+◌, ◌-◌, cond, length}
-use Rattle.run.proofs.Course.{Course}
+-- Each turn is one position and keeps `Position`, with the two lists exchanged.
+use Rattle.std.proofs.Common.{◌≡◌, length}
+use Rattle.run.proofs.Position.{Position}
 use Rattle.run.proofs.run.Given as goal
 
-abbrev pub invariant-loop-goes : goal.invariant-loop-goes
-invariant-loop-goes l =
-    Course l.code l.pattern l.line l.places l.start l.initial.seen l.initial.taken l.initial.lists l.initial.pending
-    l.seen l.taken l.lists l.pending l.at l.number l.steps l.matched l.second l.goes
-
-abbrev pub decreases-loop-goes : goal.decreases-loop-goes
-decreases-loop-goes l = (length l.line + 1 - l.at) + cond l.goes 1 0
+abbrev pub invariant-loop-p : goal.invariant-loop-p
+invariant-loop-p l = record {
+  position : Position l.table.code.now l.table.pattern.now l.line l.table.places l.start (length l.fn.seen)
+      l.state.seen.now l.state.carried.taken.now l.current l.state.carried.list.now l.pending l.p l.number l.state.steps;
+  none_carried : l.state.carried.count ≡ 0;
+}

@@ -1,29 +1,44 @@
-use Rattle.std.proofs.Common.{◌+◌, ◌*◌, ◌-◌}
-use borrow.Rule.Slice.PartMut.{same_len_mid}
-use Rattle.run.proofs.Walk.{walk_last}
-use Rattle.run.proofs.Pace.{pace_first, pace_asked, pace_next}
+use Rattle.std.proofs.Common.{true, false, refl, ◌∙◌, arith}
+use Rattle.run.proofs.Walk.{walk_first, walk_room, walk_asked, walk_next, walk_won, walk_last}
 use Rattle.run.proofs.step.Goals as goal
 
-pub loop-goes-init : goal.loop-goes-init
-loop-goes-init c =
-    pace_first c.args.code.now c.args.pattern.now c.args.line.now c.args.places c.args.at
-    c.args.seen.now c.args.taken.now c.args.lists.now c.args.pending.now
-    c.args.second c.args.number c.args.made c.requires.stepping c.requires.lists_room
+pub loop-i-init : goal.loop-i-init
+loop-i-init c = record {
+  walk = walk_first c.args.table.code.now c.args.table.pattern.now c.args.position.ahead c.args.table.places c.args.position.at
+      c.args.state.now.seen.now c.args.state.now.carried.taken.now c.args.threads.now c.args.number c.args.state.now.carried.list.now c.args.pending.now
+      c.args.state.now.steps c.args.state.now.carried.count c.requires.none_carried c.requires.stepping;
+  room = c.requires.stepping.pending_long;
+  same_tables = (refl, refl, (refl, refl));
+}
 
-pub visit-r-requires : goal.visit-r-requires
-visit-r-requires c =
-    pace_asked c.loop-goes.invariant c.loop-goes-test.true c.list_at-from.result c.list_at-from.ensures
-    c.wide-place.result c.wide-place.ensures c.list_at-to.result c.list_at-to.ensures
+pub thread_at-thread-requires : goal.thread_at-thread-requires
+thread_at-thread-requires c = walk_room c.loop-i.invariant.walk c.loop-i-test.true
 
-pub loop-goes-preserved : goal.loop-goes-preserved
-loop-goes-preserved c =
-    pace_next c.loop-goes.invariant c.loop-goes-test.true c.list_at-from.result c.list_at-from.ensures
-    c.wide-place.result c.wide-place.ensures c.list_at-to.result c.list_at-to.ensures c.load-rows.result c.load-rows.ensures
-    c.visit-r.new.seen c.visit-r.new.taken c.visit-r.new.list c.visit-r.new.pending
-    c.visit-r.result.count c.visit-r.result.steps c.visit-r.result.done c.more-goes.result
-    c.visit-r.auto.seen c.visit-r.auto.taken c.visit-r.auto.list c.visit-r.auto.pending
-    (same_len_mid c.list_at-to.result (c.list_at-to.result + 21 * (c.args.places + 1) - c.list_at-to.result) c.loop-goes.lists c.visit-r.new.list c.visit-r.auto.list)
-    (c.visit-r.ensures c.args.line.now c.ahead_at-ahead.ensures) c.more-goes.ensures
+pub visit-requires : goal.visit-requires
+visit-requires c =
+    walk_asked c.loop-i.invariant.walk c.loop-i-test.true c.thread_at-thread.result.place c.thread_at-thread.ensures.0 c.loop-i.pending c.loop-i.invariant.room
 
-pub returns : goal.returns
-returns c = walk_last c.loop-goes.invariant.walk c.loop-goes-test.false
+pub returns-then-visit-clause-steps : goal.returns-then-visit-clause-steps
+returns-then-visit-clause-steps c =
+    let thread = c.thread_at-thread in
+    let state = c.visit.new.state in
+    walk_won c.loop-i.invariant.walk c.loop-i-test.true thread.result.place thread.ensures.0 thread.result.rows thread.ensures.2
+    state.seen.now state.carried.taken.now state.carried.list.now state.carried.count state.steps true
+    c.visit.ensures.same_tables.1 c.if-visit.ensures.visits refl
+
+pub loop-i-preserved : goal.loop-i-preserved
+loop-i-preserved c =
+    let thread = c.thread_at-thread in
+    let state = c.visit.new.state in
+    let before = c.loop-i.invariant.same_tables in
+    let same = c.visit.ensures.same_tables in
+    record {
+      walk = walk_next c.loop-i.invariant.walk c.loop-i-test.true thread.result.place thread.ensures.0 thread.result.rows thread.ensures.2
+          state.seen.now state.carried.taken.now state.carried.list.now state.carried.count state.steps false
+          same.1 c.if-visit.ensures.visits refl;
+      room = omega (arith, c.loop-i.invariant.room, c.visit.auto.pending);
+      same_tables = (same.0 ∙ before.0, same.1 ∙ before.1, (same.2.0 ∙ before.2.0, same.2.1 ∙ before.2.1));
+    }
+
+pub returns-clause-steps : goal.returns-clause-steps
+returns-clause-steps c = walk_last c.loop-i.invariant.walk c.loop-i-test.false c.loop-i.auto.i-end

@@ -1,117 +1,153 @@
-use Rattle.std.proofs.Common.{◌≡◌, ◌+◌, false, not, length, arith, rules}
-use Rattle.visit.proofs.Loop.{turn_first, turn_cell, turn_floor, turn_end, turn_branch, turn_resume}
-use Rattle.visit.proofs.Loop.{turn_seen, turn_countable, less_new, lead_slots, turn_lead, turn_settle, fork_asked, turn_fork}
+use Rattle.std.proofs.Common.{◌≡◌, ◌≤◌, ◌+◌, false, length, ◌∙◌, refl, arith, rules}
+use Rattle.visit.proofs.Loop.{Turn, turn_first, turn_floor, turn_waiting, turn_last, turn_resume}
+use Rattle.visit.proofs.Loop.{turn_seen, fewer_marked, turn_countable, less_new, lead_slots, turn_lead, turn_end, turn_settle, turn_won, fork_asked, turn_fork}
+use Rattle.threads.specs.Threads.{lacking}
 use Rattle.visit.proofs.visit.Goals as goal
+use Rattle.visit.proofs.visit.Goals.{Joined-mark, then-mark+else-here-eq-FORK+then-here-lt-SET+in_default, then-mark+else-here-eq-FORK+else-here-lt-SET+else-settle, else-mark}
 
-pub loop-goes-init : goal.loop-goes-init
-loop-goes-init c =
-    let long : length c.args.groups ≡ 20 = search rules in
-    turn_first c.args.code.now c.args.pattern.now c.args.ahead.there c.args.ahead.byte c.args.places c.args.at
-    c.args.seen.now c.args.taken.now c.args.list.now c.args.pending.now
-    c.args.start c.args.groups c.args.carried c.args.made long c.requires
+pub loop-state-init : goal.loop-state-init
+loop-state-init c =
+    let long : length c.args.start.rows ≡ 20 = search rules in
+    record {
+      turn = turn_first c.args.table.code.now c.args.table.pattern.now c.args.position.ahead c.args.table.places c.args.position.at
+          c.args.state.now.seen.now c.args.state.now.carried.taken.now c.args.state.now.carried.list.now c.args.pending.now
+          c.args.start.place c.args.start.rows c.args.state.now.carried.count c.args.state.now.steps long c.requires;
+      same_seen = refl;
+      same_taken = refl;
+      same_list = refl;
+    }
 
-pub mark-requires : goal.mark-requires
-mark-requires c = turn_cell c.loop-goes.invariant
-
-pub overflow_add-steps : goal.overflow_add-steps
-overflow_add-steps c =
-    omega (arith, turn_countable c.loop-goes.invariant c.if-alive.true c.loop-goes-test.true c.mark.new.table c.mark.result c.mark.ensures c.if-mark.true)
+pub overflow_add-state : goal.overflow_add-state
+overflow_add-state c = omega (arith, turn_countable c.loop-state.invariant.turn c.mark.new.table c.mark.result c.mark.ensures c.if-mark.true)
 
 -- ---- a fork
 
-pub wait-requires : goal.wait-requires
-wait-requires c =
-    let here = c.numbers_of-here in
-    fork_asked c.loop-goes.invariant c.if-alive.true c.loop-goes-test.true c.mark.new.table c.mark.result c.mark.ensures c.if-mark.true
-    here.result.kind here.result.next here.result.a here.result.n here.ensures c.if-kind-eq-FORK.true
+pub push-requires : goal.push-requires
+push-requires c =
+    let here = c.place_at-here in
+    fork_asked c.loop-state.invariant.turn c.mark.new.table c.mark.result c.mark.ensures c.if-mark.true
+    here.result.kind here.result.next here.result.a here.result.n here.ensures c.if-here-eq-FORK.true
 
-pub loop-goes-smaller-then-kind-eq-FORK : goal.loop-goes-smaller-then-kind-eq-FORK
-loop-goes-smaller-then-kind-eq-FORK c =
-    less_new c.loop-goes.invariant c.if-alive.true c.loop-goes-test.true c.mark.new.table c.mark.result c.mark.ensures c.if-mark.true
-    (c.loop-goes.waiting + 1) c.loop-goes.alive c.loop-goes.goes (omega arith)
+pub loop-state-smaller-then-here-eq-FORK : goal.loop-state-smaller-then-here-eq-FORK
+loop-state-smaller-then-here-eq-FORK c =
+    less_new c.loop-state.invariant.turn c.mark.new.table c.mark.result c.mark.ensures c.if-mark.true c.push.new.self.count (omega (arith, c.push.ensures.pushed.1))
 
-pub loop-goes-preserved-then-kind-eq-FORK : goal.loop-goes-preserved-then-kind-eq-FORK
-loop-goes-preserved-then-kind-eq-FORK c =
-    let here = c.numbers_of-here in
-    turn_fork c.loop-goes.invariant c.if-alive.true c.loop-goes-test.true c.mark.new.table c.mark.result c.mark.ensures c.if-mark.true
-    here.result.kind here.result.next here.result.a here.result.n here.ensures
-    c.if-kind-eq-FORK.true c.wait.new.pending c.wait.ensures
+pub loop-state-preserved-then-here-eq-FORK : goal.loop-state-preserved-then-here-eq-FORK
+loop-state-preserved-then-here-eq-FORK c =
+    let here = c.place_at-here in
+    record {
+      turn = turn_fork c.loop-state.invariant.turn c.mark.new.table c.mark.result c.mark.ensures c.if-mark.true
+          here.result.kind here.result.next here.result.a here.result.n here.ensures c.if-here-eq-FORK.true
+          c.push.new.self.numbers.now c.push.new.self.count c.push.ensures.pushed;
+      same_seen = c.loop-state.invariant.same_seen;
+      same_taken = c.loop-state.invariant.same_taken;
+      same_list = c.loop-state.invariant.same_list;
+    }
 
 -- ---- a place that leads on at once
 
-pub lead-o-requires : goal.lead-o-requires
-lead-o-requires c =
-    let here = c.numbers_of-here in
-    let slots =
-    lead_slots c.loop-goes.invariant c.if-alive.true c.loop-goes-test.true c.mark.new.table c.mark.result c.mark.ensures c.if-mark.true
+pub lead-led-requires : goal.lead-led-requires
+lead-led-requires c =
+    let here = c.place_at-here in
+    let t = c.loop-state.invariant.turn in
+    let slots = lead_slots t c.mark.new.table c.mark.result c.mark.ensures c.if-mark.true
     here.result.kind here.result.next here.result.a here.result.n here.ensures in
-    (omega (arith, c.if-kind-eq-FORK.false), c.if-kind-lt-SET.true, turn_floor c.loop-goes.invariant, omega (arith, c.loop-goes.invariant.inside), slots)
+    (omega (arith, c.if-here-eq-FORK.false), c.if-here-lt-SET.true, turn_floor t, omega (arith, t.inside), slots)
 
-pub loop-goes-smaller-then-kind-lt-SET : goal.loop-goes-smaller-then-kind-lt-SET
-loop-goes-smaller-then-kind-lt-SET c =
-    less_new c.loop-goes.invariant c.if-alive.true c.loop-goes-test.true c.mark.new.table c.mark.result c.mark.ensures c.if-mark.true
-    c.loop-goes.waiting c.lead-o.result.goes c.loop-goes.goes (omega arith)
+pub loop-state-smaller-in-Some : goal.loop-state-smaller-in-Some
+loop-state-smaller-in-Some c =
+    less_new c.loop-state.invariant.turn c.mark.new.table c.mark.result c.mark.ensures c.if-mark.true c.loop-state.waiting.count (omega arith)
 
-pub loop-goes-preserved-then-kind-lt-SET : goal.loop-goes-preserved-then-kind-lt-SET
-loop-goes-preserved-then-kind-lt-SET c =
-    let here = c.numbers_of-here in
-    turn_lead c.loop-goes.invariant c.if-alive.true c.loop-goes-test.true c.mark.new.table c.mark.result c.mark.ensures c.if-mark.true
+pub loop-state-preserved-in-Some : goal.loop-state-preserved-in-Some
+loop-state-preserved-in-Some c =
+    let here = c.place_at-here in
+    record {
+      turn = turn_lead c.loop-state.invariant.turn c.mark.new.table c.mark.result c.mark.ensures c.if-mark.true
+          here.result.kind here.result.next here.result.a here.result.n here.ensures
+          (omega (arith, c.if-here-eq-FORK.false)) c.if-here-lt-SET.true c.in-Some.level c.lead-led.new.rows c.in-Some.ensures;
+      same_seen = c.loop-state.invariant.same_seen;
+      same_taken = c.loop-state.invariant.same_taken;
+      same_list = c.loop-state.invariant.same_list;
+    }
+
+-- ---- a thread wins
+
+pub returns-then-settle-clause-visits : goal.returns-then-settle-clause-visits
+returns-then-settle-clause-visits c =
+    let here = c.place_at-here in
+    turn_won c.loop-state.invariant.turn c.mark.new.table c.mark.result c.mark.ensures c.if-mark.true
     here.result.kind here.result.next here.result.a here.result.n here.ensures
-    (omega (arith, c.if-kind-eq-FORK.false)) c.if-kind-lt-SET.true c.lead-o.result.goes c.lead-o.result.floor c.lead-o.new.rows c.lead-o.ensures
+    c.settle.new.carried.taken.now c.settle.new.carried.list.now c.settle.new.carried.count c.if-settle.ensures.settles
 
--- ---- a place that leads nowhere at once
+-- ---- a thread has come to its end
 
-pub loop-goes-smaller-else-kind-lt-SET : goal.loop-goes-smaller-else-kind-lt-SET
-loop-goes-smaller-else-kind-lt-SET c =
-    less_new c.loop-goes.invariant c.if-alive.true c.loop-goes-test.true c.mark.new.table c.mark.result c.mark.ensures c.if-mark.true
-    c.loop-goes.waiting false (not c.settle-s.result.done) (omega arith)
+over : (c : Joined-mark) → Turn c.args.table.code.now c.args.table.pattern.now c.args.position.ahead c.args.table.places c.args.position.at
+    c.args.state.now.seen.now c.args.state.now.carried.taken.now c.args.state.now.carried.list.now c.args.pending.now
+    c.args.start.place c.args.start.rows c.args.state.now.carried.count c.args.state.now.steps
+    c.if-mark.state.seen.now c.if-mark.state.carried.taken.now c.if-mark.state.carried.list.now c.loop-state.waiting.numbers.now
+    c.loop-state.place c.loop-state.floor c.loop-state.rows c.if-mark.state.carried.count c.if-mark.state.steps c.loop-state.waiting.count false
+over c =
+    let t = c.loop-state.invariant.turn in
+    elim c.if-mark.branch [
+      | then-mark+else-here-eq-FORK+then-here-lt-SET+in_default w ↦
+        let here = w.place_at-here in
+        rw w.state-is (turn_end t c.mark.new.table c.mark.result c.mark.ensures w.if-mark.true
+        here.result.kind here.result.next here.result.a here.result.n here.ensures w.lead-led.new.rows w.in_default.ensures)
+      | then-mark+else-here-eq-FORK+else-here-lt-SET+else-settle w ↦
+        let here = w.place_at-here in
+        rw w.state-is (turn_settle t c.mark.new.table c.mark.result c.mark.ensures w.if-mark.true
+        here.result.kind here.result.next here.result.a here.result.n here.ensures
+        w.settle.new.carried.taken.now w.settle.new.carried.list.now w.settle.new.carried.count w.if-settle.ensures.settles)
+      | else-mark w ↦ rw w.state-is (turn_seen t c.mark.new.table c.mark.result c.mark.ensures w.if-mark.false)
+    ]
 
-pub loop-goes-preserved-else-kind-lt-SET : goal.loop-goes-preserved-else-kind-lt-SET
-loop-goes-preserved-else-kind-lt-SET c =
-    let here = c.numbers_of-here in
-    turn_settle c.loop-goes.invariant c.if-alive.true c.loop-goes-test.true c.mark.new.table c.mark.result c.mark.ensures c.if-mark.true
-    here.result.kind here.result.next here.result.a here.result.n here.ensures
-    c.settle-s.new.taken c.settle-s.new.list c.settle-s.result.count c.settle-s.result.done
-    c.settle-s.auto.taken c.settle-s.auto.list c.settle-s.ensures
+-- in the tables of the loop's start
+kept : (c : Joined-mark)
+    → (c.if-mark.state.seen.ghost_name ≡ c.args.state.now.seen.ghost_name)
+    × (c.if-mark.state.carried.taken.ghost_name ≡ c.args.state.now.carried.taken.ghost_name)
+    × (c.if-mark.state.carried.list.ghost_name ≡ c.args.state.now.carried.list.ghost_name)
+kept c =
+    let i = c.loop-state.invariant in
+    elim c.if-mark.branch [
+      | then-mark+else-here-eq-FORK+then-here-lt-SET+in_default w ↦ rw w.state-is (i.same_seen, i.same_taken, i.same_list)
+      | then-mark+else-here-eq-FORK+else-here-lt-SET+else-settle w ↦
+        let same = w.if-settle.ensures.same_memory in
+        rw w.state-is (i.same_seen, same.0 ∙ i.same_taken, same.1 ∙ i.same_list)
+      | else-mark w ↦ rw w.state-is (i.same_seen, i.same_taken, i.same_list)
+    ]
 
--- ---- a pair that was seen
+-- with no more pairs to be met
+fewer : (c : Joined-mark) → lacking (c.args.position.at + 1) c.if-mark.state.seen.now ≤ lacking (c.args.position.at + 1) c.loop-state.state.seen.now
+fewer c =
+    let no_more = fewer_marked c.loop-state.invariant.turn c.mark.new.table c.mark.result c.mark.ensures in
+    elim c.if-mark.branch [
+      | then-mark+else-here-eq-FORK+then-here-lt-SET+in_default w ↦ rw w.state-is no_more
+      | then-mark+else-here-eq-FORK+else-here-lt-SET+else-settle w ↦ rw w.state-is no_more
+      | else-mark w ↦ rw w.state-is no_more
+    ]
 
-pub loop-goes-preserved-else-mark : goal.loop-goes-preserved-else-mark
-loop-goes-preserved-else-mark c =
-    turn_seen c.loop-goes.invariant c.if-alive.true c.loop-goes-test.true c.mark.new.table c.mark.result c.mark.ensures c.if-mark.false
+pub pop-requires : goal.pop-requires
+pop-requires c = turn_waiting (over (goal.at.pop-requires c).Joined-mark)
 
--- ---- a branch that waits
+pub loop-state-smaller : goal.loop-state-smaller
+loop-state-smaller c = omega (arith, fewer (goal.at.loop-state-smaller c).Joined-mark, c.in-Some-pop.ensures.popped.0)
 
-pub overflow_mul-b : goal.overflow_mul-b
-overflow_mul-b c = omega (arith, turn_branch c.loop-goes.invariant c.if-waiting-gt0.true)
+pub loop-state-preserved : goal.loop-state-preserved
+loop-state-preserved c =
+    let o = (goal.at.loop-state-preserved c).Joined-mark in
+    let popped = c.in-Some-pop.ensures.popped in
+    record {
+      turn = rw c.in-Some-pop.ensures.same_memory.1 (turn_resume (over o) c.pop.new.self.count popped.0 c.in-Some-pop.branch.place c.in-Some-pop.branch.floor c.in-Some-pop.branch.rows
+          popped.1 popped.2 popped.3);
+      same_seen = (kept o).0;
+      same_taken = (kept o).1;
+      same_list = (kept o).2;
+    }
 
-pub offset_bounds-pending-b : goal.offset_bounds-pending-b
-offset_bounds-pending-b c = omega (arith, turn_branch c.loop-goes.invariant c.if-waiting-gt0.true)
+pub returns-in_default-pop-clause-visits : goal.returns-in_default-pop-clause-visits
+returns-in_default-pop-clause-visits c = turn_last (over (goal.at.returns-in_default-pop-clause-visits c).Joined-mark) c.in_default-pop.ensures.popped.0
 
-pub bounds-pending-b : goal.bounds-pending-b
-bounds-pending-b c = omega (arith, turn_branch c.loop-goes.invariant c.if-waiting-gt0.true)
-
-pub overflow_add-b : goal.overflow_add-b
-overflow_add-b c = omega (arith, turn_branch c.loop-goes.invariant c.if-waiting-gt0.true)
-
-pub offset_bounds-pending-b-then-waiting-gt0 : goal.offset_bounds-pending-b-then-waiting-gt0
-offset_bounds-pending-b-then-waiting-gt0 c = omega (arith, turn_branch c.loop-goes.invariant c.if-waiting-gt0.true)
-
-pub bounds-pending-b-then-waiting-gt0 : goal.bounds-pending-b-then-waiting-gt0
-bounds-pending-b-then-waiting-gt0 c = omega (arith, turn_branch c.loop-goes.invariant c.if-waiting-gt0.true)
-
-pub overflow_add-b-then-waiting-gt0 : goal.overflow_add-b-then-waiting-gt0
-overflow_add-b-then-waiting-gt0 c = omega (arith, turn_branch c.loop-goes.invariant c.if-waiting-gt0.true)
-
-pub load-rows-requires : goal.load-rows-requires
-load-rows-requires c = omega (arith, turn_branch c.loop-goes.invariant c.if-waiting-gt0.true)
-
-pub loop-goes-preserved-then-waiting-gt0 : goal.loop-goes-preserved-then-waiting-gt0
-loop-goes-preserved-then-waiting-gt0 c =
-    turn_resume c.loop-goes.invariant c.if-waiting-gt0.true c.if-alive.false c.loop-goes-test.true
-    c.wide-place.result c.wide-floor.result c.load-rows.result c.wide-place.ensures c.wide-floor.ensures c.load-rows.ensures
-
--- ---- the end
-
-pub loop-goes-preserved : goal.loop-goes-preserved
-loop-goes-preserved c = turn_end c.loop-goes.invariant c.if-alive.false c.loop-goes-test.true (omega (arith, c.if-waiting-gt0.false))
+pub returns-in_default-pop-clause-same_tables : goal.returns-in_default-pop-clause-same_tables
+returns-in_default-pop-clause-same_tables c =
+    let o = (goal.at.returns-in_default-pop-clause-same_tables c).Joined-mark in
+    ((kept o).0, (over o).long, ((kept o).1, (kept o).2))
