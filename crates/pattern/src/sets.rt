@@ -6,6 +6,7 @@ ghost use Rattle.pattern.specs.Walk.{range_of};
 use crate::Pattern;
 
 // Whether pairs stand in order and apart.
+#[inline(always)]
 fn apart(pairs: &[[u8; 2]]) -> bool
     ensures { result ≡ apart (map range_of pairs.now) }
 {
@@ -21,6 +22,7 @@ fn apart(pairs: &[[u8; 2]]) -> bool
 }
 
 // Whether bytes are right as a byte set's body.
+#[inline(always)]
 pub fn right(body: &[u8]) -> bool
     ensures { result ≡ set_right body.now }
 {

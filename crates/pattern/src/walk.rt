@@ -79,6 +79,7 @@ pub fn any_record(
 impl Body<'_> {
     // By its kind, then what it holds.
     #[cycle(reading)]
+    #[inline(always)]
     fn walk(self, kind: Kind, before: usize) -> Result<Walked, Refused>
         requires { before ≤ pattern_groups }
         ensures { Tells self.entry.end (self.entry.left + 1) self.entry.end before (body (kind_of kind) (walk_record self.entry.left self.entry.s.now) self.entry.s.now self.entry.at before) result }
@@ -101,6 +102,7 @@ impl Body<'_> {
     }
 
     // A record that holds no other.
+    #[inline(always)]
     fn leaf(
         self,
         right: bool,
@@ -123,6 +125,7 @@ impl Body<'_> {
 
     // A group: 7, then the one record inside. Its two ends are two places more.
     #[cycle(reading)]
+    #[inline(always)]
     fn group(self, before: usize) -> Result<Walked, Refused>
         requires { before ≤ pattern_groups }
         ensures { Tells self.entry.end (self.entry.left + 1) self.entry.end before (body group_kind (walk_record self.entry.left self.entry.s.now) self.entry.s.now self.entry.at before) result }
@@ -139,6 +142,7 @@ impl Body<'_> {
 
     // A repeat: its three numbers, then the one record inside.
     #[cycle(reading)]
+    #[inline(always)]
     fn repeat(self, before: usize) -> Result<Walked, Refused>
         requires { before ≤ pattern_groups }
         ensures { Tells self.entry.end (self.entry.left + 1) self.entry.end before (body repeat_kind (walk_record self.entry.left self.entry.s.now) self.entry.s.now self.entry.at before) result }
@@ -163,6 +167,7 @@ impl Body<'_> {
 
     // A sequence or an alternation: two records at least, and in an alternation a fork before each but the last.
     #[cycle(reading)]
+    #[inline(always)]
     fn several(self, forks: bool, before: usize) -> Result<Walked, Refused>
         requires { before ≤ pattern_groups }
         ensures { Tells self.entry.end (self.entry.left + 1) self.entry.end before (several_found forks (walk_record self.entry.left self.entry.s.now) self.entry.s.now self.entry.at before) result }
@@ -182,6 +187,7 @@ impl Body<'_> {
 
     // The one record inside a group or a repeat, from an offset on: bytes left over behind it are a fault of the holder.
     #[cycle(reading)]
+    #[inline(always)]
     fn one(self, from: usize, before: usize) -> Result<Walked, Refused>
         requires { (before ≤ pattern_groups) × (from ≤ self.end) }
         ensures { Tells self.entry.end self.entry.left self.entry.end before (single (walk_record self.entry.left self.entry.s.now) self.entry.s.now self.entry.at from before) result }
@@ -195,6 +201,7 @@ impl Body<'_> {
 
     // All the records inside a sequence or an alternation, left to right.
     #[cycle(reading)]
+    #[inline(always)]
     fn all(self, before: usize) -> Result<Members, Refused>
         requires { before ≤ pattern_groups }
         ensures { TellsAll self.entry.left before (members_of (walk_record self.entry.left self.entry.s.now) self.entry.s.now self.entry.at before) result }
