@@ -1,5 +1,5 @@
 use Rattle.std.proofs.Common.{◌≡◌, ◌≤◌, ◌+◌, false, length, ◌∙◌, refl, arith, rules}
-use Rattle.visit.proofs.Loop.{Turn, turn_first, turn_floor, turn_waiting, turn_last, turn_resume}
+use Rattle.visit.proofs.Loop.{Turn, turn_first, turn_floor, turn_last, turn_resume}
 use Rattle.visit.proofs.Loop.{turn_seen, fewer_marked, turn_countable, less_new, lead_slots, turn_lead, turn_end, turn_settle, turn_won, fork_asked, turn_fork}
 use Rattle.threads.specs.Threads.{lacking}
 use Rattle.visit.proofs.visit.Goals as goal
@@ -90,14 +90,14 @@ over c =
     let t = c.loop-state.invariant.turn in
     elim c.if-mark.branch [
       | then-mark+else-here-eq-FORK+then-here-lt-SET+in_default w ↦
-        let here = w.place_at-here in
-        rw w.state-is (turn_end t c.mark.new.table c.mark.result c.mark.ensures w.if-mark.true
-        here.result.kind here.result.next here.result.a here.result.n here.ensures w.lead-led.new.rows w.in_default.ensures)
+          let here = w.place_at-here in
+          rw w.state-is (turn_end t c.mark.new.table c.mark.result c.mark.ensures w.if-mark.true
+          here.result.kind here.result.next here.result.a here.result.n here.ensures w.lead-led.new.rows w.in_default.ensures)
       | then-mark+else-here-eq-FORK+else-here-lt-SET+else-settle w ↦
-        let here = w.place_at-here in
-        rw w.state-is (turn_settle t c.mark.new.table c.mark.result c.mark.ensures w.if-mark.true
-        here.result.kind here.result.next here.result.a here.result.n here.ensures
-        w.settle.new.carried.taken.now w.settle.new.carried.list.now w.settle.new.carried.count w.if-settle.ensures.settles)
+          let here = w.place_at-here in
+          rw w.state-is (turn_settle t c.mark.new.table c.mark.result c.mark.ensures w.if-mark.true
+          here.result.kind here.result.next here.result.a here.result.n here.ensures
+          w.settle.new.carried.taken.now w.settle.new.carried.list.now w.settle.new.carried.count w.if-settle.ensures.settles)
       | else-mark w ↦ rw w.state-is (turn_seen t c.mark.new.table c.mark.result c.mark.ensures w.if-mark.false)
     ]
 
@@ -111,8 +111,8 @@ kept c =
     elim c.if-mark.branch [
       | then-mark+else-here-eq-FORK+then-here-lt-SET+in_default w ↦ rw w.state-is (i.same_seen, i.same_taken, i.same_list)
       | then-mark+else-here-eq-FORK+else-here-lt-SET+else-settle w ↦
-        let same = w.if-settle.ensures.same_memory in
-        rw w.state-is (i.same_seen, same.0 ∙ i.same_taken, same.1 ∙ i.same_list)
+          let same = w.if-settle.ensures.same_memory in
+          rw w.state-is (i.same_seen, same.0 ∙ i.same_taken, same.1 ∙ i.same_list)
       | else-mark w ↦ rw w.state-is (i.same_seen, i.same_taken, i.same_list)
     ]
 
@@ -125,9 +125,6 @@ fewer c =
       | then-mark+else-here-eq-FORK+else-here-lt-SET+else-settle w ↦ rw w.state-is no_more
       | else-mark w ↦ rw w.state-is no_more
     ]
-
-pub pop-requires : goal.pop-requires
-pop-requires c = turn_waiting (over (goal.at.pop-requires c).Joined-mark)
 
 pub loop-state-smaller : goal.loop-state-smaller
 loop-state-smaller c = omega (arith, fewer (goal.at.loop-state-smaller c).Joined-mark, c.in-Some-pop.ensures.popped.0)
@@ -146,8 +143,3 @@ loop-state-preserved c =
 
 pub returns-in_default-pop-clause-visits : goal.returns-in_default-pop-clause-visits
 returns-in_default-pop-clause-visits c = turn_last (over (goal.at.returns-in_default-pop-clause-visits c).Joined-mark) c.in_default-pop.ensures.popped.0
-
-pub returns-in_default-pop-clause-same_tables : goal.returns-in_default-pop-clause-same_tables
-returns-in_default-pop-clause-same_tables c =
-    let o = (goal.at.returns-in_default-pop-clause-same_tables c).Joined-mark in
-    ((kept o).0, (over o).long, ((kept o).1, (kept o).2))
