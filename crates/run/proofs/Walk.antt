@@ -140,16 +140,16 @@ module _ {code pattern : List ℕ} {ahead : Option ℕ} {places p : ℕ} {seen�
       -- after a winner, what the position promises
       pub walk_won : done ≡ true → Steps code pattern ahead places p seen₀ from number steps₀ seen' taken' list' count' steps' true
       walk_won won = record {
-            under = made.under;
-            carried = made.carried;
-            bounded = omega (arith, made.each, w.each, lacking_all (p + 1) seen₀);
-            shows = λ line along k h.
-                let shown : Shows places (p + 1) seen' taken' list' count' steps' true (visits k (decode code pattern places) line p (threads from (i + 1)) (fresh steps₀)) =
-                subst (λ (d : Bool). Shows places (p + 1) seen' taken' list' count' steps' d (visits k (decode code pattern places) line p (threads from (i + 1)) (fresh steps₀)))
-                won (shown_next line along k h) in
-                subst (Shows places (p + 1) seen' taken' list' count' steps' true)
-                (sym (visits_won k (decode code pattern places) line p from (i + 1) number (fresh steps₀) (omega arith) (ap is_won shown.winner))) shown;
-          }
+        under = made.under;
+        carried = made.carried;
+        bounded = omega (arith, made.each, w.each, lacking_all (p + 1) seen₀);
+        shows = λ line along k h.
+            let shown : Shows places (p + 1) seen' taken' list' count' steps' true (visits k (decode code pattern places) line p (threads from (i + 1)) (fresh steps₀)) =
+            subst (λ (d : Bool). Shows places (p + 1) seen' taken' list' count' steps' d (visits k (decode code pattern places) line p (threads from (i + 1)) (fresh steps₀)))
+            won (shown_next line along k h) in
+            subst (Shows places (p + 1) seen' taken' list' count' steps' true)
+            (sym (visits_won k (decode code pattern places) line p from (i + 1) number (fresh steps₀) (omega arith) (ap is_won shown.winner))) shown;
+      }
 
       -- where none has won, it holds before the next thread
       pub walk_next : done ≡ false → Walk code pattern ahead places p seen₀ from number steps₀ seen' taken' list' (i + 1) count' steps'

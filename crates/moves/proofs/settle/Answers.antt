@@ -20,7 +20,7 @@ pub returns-clause-settles : goal.returns-clause-settles
 returns-clause-settles c =
     elim c.else-here-eq-ACCEPT.branch [
       | else-here-eq-ACCEPT-via-then-here-eq-ACCEPT+else-is_none w ↦
-        settles_early c.requires c.args.position.ahead c.args.rows w.if-here-eq-ACCEPT.true (search rules)
+          settles_early c.requires c.args.position.ahead c.args.rows w.if-here-eq-ACCEPT.true (search rules)
       | else-here-eq-ACCEPT-via-else-here-eq-ACCEPT w ↦
-        settles_die c.requires c.args.position.ahead c.args.rows w.if-here-eq-ACCEPT.false c.eats.result c.eats.ensures c.if-eats.false
+          settles_die c.requires c.args.position.ahead c.args.rows w.if-here-eq-ACCEPT.false c.eats.result c.eats.ensures c.if-eats.false
     ]

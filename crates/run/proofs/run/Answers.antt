@@ -57,16 +57,16 @@ returns c =
     elim c.loop-p-test.branch [
       | else-loop-p-test w ↦ rw w.state-is (position_last c.loop-p.invariant.position w.loop-p-test.false)
       | then-loop-p-test+else-wins+then-number-eq0 w ↦
-        let state = w.step-wins.new.state in
-        rw w.state-is (position_stopped c.loop-p.invariant.position w.loop-p-test.true
-        (ahead_read c.args.line.now c.loop-p.p w.get.result w.copied.result w.copied.ensures w.get.ensures.lookup w.loop-p-test.true)
-        state.seen.now state.carried.taken.now state.carried.list.now state.carried.count state.steps false
-        (take (length c.loop-p.current.now) c.loop-p.current.now) (whole c.loop-p.current.now) w.if-wins.ensures.steps refl w.if-number-eq0.true)
+          let state = w.step-wins.new.state in
+          rw w.state-is (position_stopped c.loop-p.invariant.position w.loop-p-test.true
+          (ahead_read c.args.line.now c.loop-p.p w.get.result w.copied.result w.copied.ensures w.get.ensures.lookup w.loop-p-test.true)
+          state.seen.now state.carried.taken.now state.carried.list.now state.carried.count state.steps false
+          (take (length c.loop-p.current.now) c.loop-p.current.now) (whole c.loop-p.current.now) w.if-wins.ensures.steps refl w.if-number-eq0.true)
       | then-loop-p-test+else-wins+else-number-eq0+else-p-p-end w ↦
-        let state = w.step-wins.new.state in
-        rw w.state-is (position_last (position_next c.loop-p.invariant.position w.loop-p-test.true
-        (ahead_read c.args.line.now c.loop-p.p w.get.result w.copied.result w.copied.ensures w.get.ensures.lookup w.loop-p-test.true)
-        state.seen.now state.carried.taken.now state.carried.list.now state.carried.count state.steps false
-        (take (length c.loop-p.current.now) c.loop-p.current.now) (whole c.loop-p.current.now) w.if-wins.ensures.steps refl (omega (arith, w.if-number-eq0.false))
-        w.step-wins.ensures.same_tables.1 w.step-wins.new.pending w.step-wins.auto.pending) (omega arith))
+          let state = w.step-wins.new.state in
+          rw w.state-is (position_last (position_next c.loop-p.invariant.position w.loop-p-test.true
+          (ahead_read c.args.line.now c.loop-p.p w.get.result w.copied.result w.copied.ensures w.get.ensures.lookup w.loop-p-test.true)
+          state.seen.now state.carried.taken.now state.carried.list.now state.carried.count state.steps false
+          (take (length c.loop-p.current.now) c.loop-p.current.now) (whole c.loop-p.current.now) w.if-wins.ensures.steps refl (omega (arith, w.if-number-eq0.false))
+          w.step-wins.ensures.same_tables.1 w.step-wins.new.pending w.step-wins.auto.pending) (omega arith))
     ]

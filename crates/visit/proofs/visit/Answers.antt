@@ -90,14 +90,14 @@ over c =
     let t = c.loop-state.invariant.turn in
     elim c.if-mark.branch [
       | then-mark+else-here-eq-FORK+then-here-lt-SET+in_default w ↦
-        let here = w.place_at-here in
-        rw w.state-is (turn_end t c.mark.new.table c.mark.result c.mark.ensures w.if-mark.true
-        here.result.kind here.result.next here.result.a here.result.n here.ensures w.lead-led.new.rows w.in_default.ensures)
+          let here = w.place_at-here in
+          rw w.state-is (turn_end t c.mark.new.table c.mark.result c.mark.ensures w.if-mark.true
+          here.result.kind here.result.next here.result.a here.result.n here.ensures w.lead-led.new.rows w.in_default.ensures)
       | then-mark+else-here-eq-FORK+else-here-lt-SET+else-settle w ↦
-        let here = w.place_at-here in
-        rw w.state-is (turn_settle t c.mark.new.table c.mark.result c.mark.ensures w.if-mark.true
-        here.result.kind here.result.next here.result.a here.result.n here.ensures
-        w.settle.new.carried.taken.now w.settle.new.carried.list.now w.settle.new.carried.count w.if-settle.ensures.settles)
+          let here = w.place_at-here in
+          rw w.state-is (turn_settle t c.mark.new.table c.mark.result c.mark.ensures w.if-mark.true
+          here.result.kind here.result.next here.result.a here.result.n here.ensures
+          w.settle.new.carried.taken.now w.settle.new.carried.list.now w.settle.new.carried.count w.if-settle.ensures.settles)
       | else-mark w ↦ rw w.state-is (turn_seen t c.mark.new.table c.mark.result c.mark.ensures w.if-mark.false)
     ]
 
@@ -111,8 +111,8 @@ kept c =
     elim c.if-mark.branch [
       | then-mark+else-here-eq-FORK+then-here-lt-SET+in_default w ↦ rw w.state-is (i.same_seen, i.same_taken, i.same_list)
       | then-mark+else-here-eq-FORK+else-here-lt-SET+else-settle w ↦
-        let same = w.if-settle.ensures.same_memory in
-        rw w.state-is (i.same_seen, same.0 ∙ i.same_taken, same.1 ∙ i.same_list)
+          let same = w.if-settle.ensures.same_memory in
+          rw w.state-is (i.same_seen, same.0 ∙ i.same_taken, same.1 ∙ i.same_list)
       | else-mark w ↦ rw w.state-is (i.same_seen, i.same_taken, i.same_list)
     ]
 
