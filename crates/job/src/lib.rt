@@ -8,7 +8,7 @@ ghost use Rattle.job.specs.Comes.{comes, pattern_record, line_record, body_bytes
 use pattern::{Numbers, Spans};
 use printer::Printer;
 
-// The kinds of a job's records, and the greatest length of a body.
+// The kinds of a job's records, numbers since `next_record` may be asked for any, and the greatest length of a body.
 #[derive(Clone, Copy)]
 pub struct Job {}
 

@@ -11,7 +11,8 @@ ghost use Rattle.moves.specs.Moves.{Slots, Eats, Leads, Settling, Settles};
 use pattern::{PlaceKind, Spans};
 use threads::Carried;
 
-// The kinds of place. Those before SET lead on at once: a fork to two places, the others to one.
+// The kinds of place. Those before SET lead on at once: a fork to two places, the others to one. They stay numbers: `place_at` reads every table, whatever
+// stands in it, and all kinds in one jump cost 0.03 to 0.08 of a step (docs/SPEED.md).
 pub const FORK: usize = PlaceKind::Fork as usize;
 
 const OPEN: usize = PlaceKind::Open as usize;
@@ -35,7 +36,7 @@ pub struct Position {
     pub ahead: Option<u8>,
 }
 
-// The four numbers of a place.
+// The four numbers of a place as they are read, each an index; `laying` has those that are written, which have yet to fit.
 #[derive(Clone, Copy)]
 pub struct Place {
     pub kind: usize,

@@ -36,7 +36,7 @@ fn print_job(bytes: &[u8], p: &mut Printer) -> Result<(), Broken>
     }
 }
 
-// The lines of a job, which stand behind its pattern.
+// The lines of a job, which stand behind its pattern. No `for`: where the next record stands is what this one says.
 fn print_lines(lines: &[u8], pattern: &[u8], groups: usize, p: &mut Printer) -> Result<(), Broken>
     ensures { Gathered p.old p.new }
 {

@@ -35,6 +35,7 @@ pub fn visit(
     ensures same_tables { SameTables state.old state.new }
     ensures visits { Visits table.entry.code.now table.entry.pattern.now position.ahead table.entry.places position.at start.place start.rows state.old.seen.now state.old.carried.taken.now state.old.carried.list.now state.old.carried.count state.old.steps state.new.seen.now state.new.carried.taken.now state.new.carried.list.now state.new.carried.count state.new.steps result }
 {
+    // Not one `Thread`: with place, floor and rows apart runs take 0.91 of plain C, as one struct 1.03.
     let mut place = start.place;
     let mut floor = 0;
     let mut rows = start.rows;
