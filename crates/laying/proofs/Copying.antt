@@ -5,6 +5,9 @@ use mathlib.Core.Bool.{Bool, true, false, cond}
 use mathlib.Core.List.{List, [], ◌∷◌}
 use native.Mathlib.Omega.{arith}
 use borrow.Author.Tests.{ltb-true, ltb-false, lt-ltb, le-ltb, ne_eqb}
+use mathlib.Core.Logic.{∥∥₁_elim}
+use Rattle.std.proofs.Math.Bridge.{le_prop}
+use Rattle.std.proofs.lemmas.Bool.{eqb-true, eqb-false}
 use lib.Dec.{ltb, eqb}
 use lib.ListN.{get_or}
 use Rattle.paper.specs.Pattern.{Mode, greedy, lazy}
@@ -32,6 +35,28 @@ moved_behind from count to next x high =
 -- any other place's is not
 pub other_same : (from count to next kind a : ℕ) → (kind ≡ 0 → ⊥) → moved_other from count to next kind a ≡ a
 other_same from count to next kind a not = ap (λ (b : Bool). cond b (moved_to from count to next a) a) (ne_eqb kind 0 not)
+
+-- a fact that is an order of numbers holds where a shift may be made somehow
+moving_le : {from count to next i j : ℕ} → ∥ Moving from count to next ∥₁ → (Moving from count to next → i ≤ j) → i ≤ j
+moving_le somehow found = ∥∥₁_elim somehow le_prop found
+
+-- what is known of a shift that may be made somehow: which of the two ways it is tells a test
+pub moving_of : {from count to next : ℕ} → ∥ Moving from count to next ∥₁ → Moving from count to next
+moving_of {from} {count} {to} {next} somehow =
+    record {
+      model_room = moving_le somehow (λ m. m.model_room);
+      room = moving_le somehow (λ m. m.room);
+      follows = moving_le somehow (λ m. m.follows);
+      apart = apart (eqb from to) refl;
+    }
+  where
+    first : (from ≡ to → ⊥) → Model from count to to → from + count ≤ to
+    first not (in_place same) = absurd (not same)
+    first not (ahead before) = before
+
+    apart : (b : Bool) → eqb from to ≡ b → Model from count to to
+    apart true e = in_place (eqb-true from to e)
+    apart false e = ahead (moving_le somehow (λ m. first (eqb-false from to e) m.apart))
 
 -- Copying goes from place to place.
 

@@ -7,19 +7,19 @@ ghost use Rattle.laying.specs.Copies.{moved_to, moved_other, Moving, PutMoved, C
 use crate::{Place, Table};
 use pattern::PlaceKind;
 
-// Places to be copied: where they stand, how many they are, where the copy stands and what follows it.
+// Places to be copied: where they stand, how many they are, where the copy stands and what follows it. There is room for the copy.
 #[derive(Clone, Copy)]
 pub struct Shift {
     pub from: usize,
     pub count: usize,
     pub to: usize,
     pub next: usize,
+    pub ghost moving: { ∥ Moving from count to next ∥₁ },
 }
 
 impl Shift {
     // Where a follower leads in the copy: one of the copied places to its copy, any other to what follows the copy.
     fn moved(self, x: usize) -> usize
-        requires { Moving self.from self.count self.to self.next }
         ensures { (result ≡ moved_to self.from self.count self.to self.next x) × (result ≤ most_places) }
     {
         if x < self.from {
@@ -35,8 +35,7 @@ impl Shift {
 
     // The third number of a place in the copy: a fork's is its other follower.
     fn moved_other(self, kind: u16, a: usize) -> usize
-        requires moving { Moving self.from self.count self.to self.next }
-        requires small { a ≤ most_number }
+        requires { a ≤ most_number }
         ensures { (result ≡ moved_other self.from self.count self.to self.next kind a) × (result ≤ most_number) }
     {
         if kind == PlaceKind::Fork as u16 {
@@ -48,8 +47,7 @@ impl Shift {
 
     // Copies one of the places, its followers moved.
     fn place_copied(self, table: &mut Table, k: usize)
-        requires moving { Moving self.from self.count self.to self.next }
-        requires below { k < self.count }
+        requires { k < self.count }
         ensures { Writes (PutMoved self.from self.count self.to self.next k) table.old table.new }
     {
         let b = PlaceKind::NUMBERS * (self.from + k);
@@ -62,7 +60,6 @@ impl Shift {
 
     // Copies places, their followers moved. The copy may stand where they do: then only what follows them changes.
     pub fn copied(self, table: &mut Table)
-        requires { Moving self.from self.count self.to self.next }
         ensures { Writes (Copied self.from self.count self.to self.next self.count) table.old table.new }
     {
         for k in 0..self.count {

@@ -11,8 +11,7 @@ ghost use Rattle.moves.specs.Moves.{Slots, Eats, Leads, Settling, Settles};
 use pattern::{PlaceKind, Spans};
 use threads::Carried;
 
-// The kinds of place. Those before SET lead on at once: a fork to two places, the others to one. They stay numbers: `place_at` reads every table, whatever
-// stands in it, and all kinds in one jump cost 0.03 to 0.08 of a step (docs/SPEED.md).
+// The kinds of place, as numbers: `settle` takes any number from SET on. Those before SET lead on at once: a fork to two places, the others to one.
 pub const FORK: usize = PlaceKind::Fork as usize;
 
 const OPEN: usize = PlaceKind::Open as usize;

@@ -207,6 +207,7 @@ impl Body<'_> {
         requires { before ≤ pattern_groups }
         ensures { TellsAll self.entry.left before (members_of (walk_record self.entry.left self.entry.s.now) self.entry.s.now self.entry.at before) result }
     {
+        // no iterator: only the walk of a record tells where the next one starts, and a fault ends it
         let mut next = self.start;
         let mut count = 0;
         let mut places = 0;

@@ -42,6 +42,7 @@ fn step(
 }
 
 // The machine from a position of the line on, started with one thread at the first place. The threads that one position carries are the next one's.
+// The four memories are not one struct: a struct of lent parts of two others gets no proof.
 pub fn run<'a>(
     table: Table,
     line: &[u8],

@@ -24,6 +24,7 @@ pub struct State<'a> {
 }
 
 // A thread on level 0, with all that it leads to at this position; whether a thread wins. A fork's other branch waits until the preferred one has come to its end.
+// One function: in two, a thread's way and the taking of the next branch, it runs 6 % slower (docs/DECISIONS.md, 35).
 pub fn visit(
     table: Table,
     position: Position,
@@ -35,7 +36,7 @@ pub fn visit(
     ensures same_tables { SameTables state.old state.new }
     ensures visits { Visits table.entry.code.now table.entry.pattern.now position.ahead table.entry.places position.at start.place start.rows state.old.seen.now state.old.carried.taken.now state.old.carried.list.now state.old.carried.count state.old.steps state.new.seen.now state.new.carried.taken.now state.new.carried.list.now state.new.carried.count state.new.steps result }
 {
-    // Not one `Thread`: with place, floor and rows apart runs take 0.91 of plain C, as one struct 1.03.
+    // Not in one Thread: rows that stand alone are aligned (0.91 of plain C in place of 1.03).
     let mut place = start.place;
     let mut floor = 0;
     let mut rows = start.rows;

@@ -1,5 +1,5 @@
 use Rattle.std.proofs.Common.{true, false, refl, ◌∙◌, arith}
-use Rattle.run.proofs.Walk.{walk_first, walk_room, walk_asked, walk_next, walk_won, walk_last}
+use Rattle.run.proofs.Walk.{walk_first, walk_asked, walk_next, walk_won, walk_last}
 use Rattle.run.proofs.step.Goals as goal
 
 pub loop-i-init : goal.loop-i-init
@@ -10,9 +10,6 @@ loop-i-init c = record {
   room = c.requires.stepping.pending_long;
   same_tables = (refl, refl, (refl, refl));
 }
-
-pub thread_at-thread-requires : goal.thread_at-thread-requires
-thread_at-thread-requires c = walk_room c.loop-i.invariant.walk c.loop-i-test.true
 
 pub visit-requires : goal.visit-requires
 visit-requires c =

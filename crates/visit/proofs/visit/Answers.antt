@@ -1,5 +1,5 @@
 use Rattle.std.proofs.Common.{◌≡◌, ◌≤◌, ◌+◌, false, length, ◌∙◌, refl, arith, rules}
-use Rattle.visit.proofs.Loop.{Turn, turn_first, turn_floor, turn_waiting, turn_last, turn_resume}
+use Rattle.visit.proofs.Loop.{Turn, turn_first, turn_floor, turn_last, turn_resume}
 use Rattle.visit.proofs.Loop.{turn_seen, fewer_marked, turn_countable, less_new, lead_slots, turn_lead, turn_end, turn_settle, turn_won, fork_asked, turn_fork}
 use Rattle.threads.specs.Threads.{lacking}
 use Rattle.visit.proofs.visit.Goals as goal
@@ -126,9 +126,6 @@ fewer c =
       | else-mark w ↦ rw w.state-is no_more
     ]
 
-pub pop-requires : goal.pop-requires
-pop-requires c = turn_waiting (over (goal.at.pop-requires c).Joined-mark)
-
 pub loop-state-smaller : goal.loop-state-smaller
 loop-state-smaller c = omega (arith, fewer (goal.at.loop-state-smaller c).Joined-mark, c.in-Some-pop.ensures.popped.0)
 
@@ -146,8 +143,3 @@ loop-state-preserved c =
 
 pub returns-in_default-pop-clause-visits : goal.returns-in_default-pop-clause-visits
 returns-in_default-pop-clause-visits c = turn_last (over (goal.at.returns-in_default-pop-clause-visits c).Joined-mark) c.in_default-pop.ensures.popped.0
-
-pub returns-in_default-pop-clause-same_tables : goal.returns-in_default-pop-clause-same_tables
-returns-in_default-pop-clause-same_tables c =
-    let o = (goal.at.returns-in_default-pop-clause-same_tables c).Joined-mark in
-    ((kept o).0, (over o).long, ((kept o).1, (kept o).2))
