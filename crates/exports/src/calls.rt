@@ -1,4 +1,5 @@
 // Checking, whole match, search and piece. Lent memory that is too short is refused first, and then nothing is touched.
+// The functions are alike, and each is one of the C interface: the test of `out` has to come before the call that writes.
 ghost use Rattle.exports.specs.Replies.{CheckReplies, MatchReplies, SearchReplies, ReplaceReplies, PieceReplies};
 
 use crate::limits::Lent;

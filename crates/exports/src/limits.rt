@@ -17,6 +17,7 @@ impl Lent {
     // the branches that wait, which are the longest thing that a run needs
     pub const SCRATCH: usize = Machine::PENDING;
 
+    // a number, as C is told it
     pub const TOO_SHORT: u32 = 255;
 }
 

@@ -5,10 +5,10 @@ ghost use Rattle.std.specs.Prelude.{◌≤◌, ◌≡◌, [], ◌∷◌, length}
 ghost use Rattle.printer.specs.Gathered.{Gathered};
 ghost use Rattle.job.specs.Comes.{comes, pattern_record, line_record, body_bytes};
 
-use pattern::{Numbers, Refused, Spans};
+use pattern::{Numbers, Spans};
 use printer::Printer;
 
-// The kinds of a job's records, and the greatest length of a body.
+// The kinds of a job's records, numbers since `next_record` may be asked for any, and the greatest length of a body.
 #[derive(Clone, Copy)]
 pub struct Job {}
 
@@ -75,10 +75,10 @@ pub fn print_numbers(p: &mut Printer, numbers: Numbers)
 }
 
 // The refusal of the pattern.
-pub fn print_refused(p: &mut Printer, refused: Refused)
+pub fn print_refused(p: &mut Printer, number: usize, place: usize)
     ensures { Gathered p.old p.new }
 {
-    p.refusal(refused);
+    p.refusal(number, place);
     p.bytes(b"\n");
 }
 

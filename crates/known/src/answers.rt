@@ -29,7 +29,7 @@ pub fn replaced(p: &mut Printer, pattern: &[u8], template: &[u8], line: &[u8])
 {
     let mut buffer = [0; OUTPUT];
     match replacer::replace_all(pattern, template, line, &mut buffer) {
-        Err(refused) => job::print_refused(p, refused),
+        Err(refused) => job::print_refused(p, refused.refusal.number(), refused.place),
         Ok(done) => {
             if let Some(output) = buffer.get(..done.length) {
                 words::quoted(p, output);

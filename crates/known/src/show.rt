@@ -14,7 +14,7 @@ pub fn built(p: &mut Printer, pattern: &[u8], searches: bool) -> usize {
             numbers.groups
         }
         Err(refused) => {
-            job::print_refused(p, refused);
+            job::print_refused(p, refused.refusal.number(), refused.place);
             0
         }
     }

@@ -16,7 +16,7 @@ ghost use Rattle.laying.specs.Single.{Fitting, Put, Forked, Ranged, RangedLaid, 
 use pattern::{Pattern, PlaceKind};
 pub use table::Table;
 
-// The four numbers of a place: its kind, its follower, and two that its kind gives a meaning.
+// The four numbers of a place: its kind, which may be any number as a copy hands on what stands in the table, its follower, and two that its kind gives a meaning.
 #[derive(Clone, Copy)]
 pub struct Place {
     pub kind: u16,

@@ -121,7 +121,8 @@ impl Machine<'_> {
         }
     }
 
-    // The same in scratch of its own, as large as the machine asks for.
+    // The same in scratch of its own, as large as the machine asks for. Both sizes are written out, as in `replacer`: nothing is known of what a closure
+    // leaves in scratch that it is lent, so its caller could not be proved.
     pub fn find(self, line: &[u8]) -> Ran
         requires { length line.now ≤ line_bytes }
         ensures { FoundGives self.entry.searches self.entry.pattern.now line.now result }

@@ -35,7 +35,7 @@ pub struct Position {
     pub ahead: Option<u8>,
 }
 
-// The four numbers of a place.
+// The four numbers of a place as they are read, each an index; `laying` has those that are written, which have yet to fit.
 #[derive(Clone, Copy)]
 pub struct Place {
     pub kind: usize,

@@ -33,7 +33,7 @@ impl Pattern {
     pub const SET_PAIRS: usize = 32;
 
     pub const REPEAT_COUNT: usize = 255;
-    // what stands for no upper end in a repeat
+    // what stands for no upper end in a repeat; with the modes a number of the format, of which `counts::right` and `optional` take any
     pub const NO_UPPER_END: usize = 65535;
     // the modes of a repeat, as numbers: laying's `any_star` may be asked with any number, and an enum would ask more
     pub const GREEDY: usize = 0;
@@ -97,7 +97,7 @@ impl Spans {
     pub const ROWS: usize = Pattern::GROUPS + 1;
     // a start and an end for each row
     pub const NUMBERS: usize = 2 * Spans::ROWS;
-    // both numbers of a row that is absent
+    // both numbers of a row that is absent; a table is flat numbers, as C lends it
     pub const ABSENT: u16 = 65535;
 
     // A span table whose rows are all absent.

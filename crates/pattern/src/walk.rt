@@ -31,6 +31,7 @@ pub struct Members {
 }
 
 // A record that is all there: its own offset, where its body starts and ends, and how many levels are left inside it.
+// How many groups there were before stays beside it: it grows from record to record, and `..` takes no struct with ghost fields.
 #[derive(Clone, Copy)]
 pub struct Body<'a> {
     s: &'a [u8],
@@ -199,7 +200,7 @@ impl Body<'_> {
         Ok(inner)
     }
 
-    // All the records inside a sequence or an alternation, left to right.
+    // All the records inside a sequence or an alternation, left to right. No `for`: where the next one stands is what walking this one answers.
     #[cycle(reading)]
     #[inline(always)]
     fn all(self, before: usize) -> Result<Members, Refused>

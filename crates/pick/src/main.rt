@@ -6,6 +6,7 @@ mod input;
 
 ghost use Rattle.std.specs.Prelude.{◌≡◌, false};
 ghost use Rattle.machine.specs.Scratch.{Roomy};
+ghost use Rattle.printer.specs.Gathered.{Gathered};
 
 use input::Input;
 use job::{Broken, Job};
@@ -43,7 +44,9 @@ fn all_lines(
 }
 
 // What is printed where no record comes any more: that the input could not be read, that the job is broken, or nothing.
-fn print_end(input: &Input, ended: Result<(), Broken>, p: &mut Printer, errors: Stderr) {
+fn print_end(input: &Input, ended: Result<(), Broken>, p: &mut Printer, errors: Stderr)
+    ensures { Gathered p.old p.new }
+{
     if input.failed() {
         p.unreadable(errors, b"pick", b"job unreadable\n");
     } else if ended.is_err() {
@@ -55,7 +58,7 @@ fn print_end(input: &Input, ended: Result<(), Broken>, p: &mut Printer, errors: 
 fn with_pattern(input: &mut Input, pattern: &[u8], p: &mut Printer, errors: Stderr) {
     let mut code = [0u16; Machine::CODE];
     match machine::build(pattern, false, &mut code) {
-        Err(refused) => job::print_refused(p, refused),
+        Err(refused) => job::print_refused(p, refused.refusal.number(), refused.place),
         Ok(numbers) => {
             job::print_numbers(p, numbers);
             let machine = Machine {

@@ -8,13 +8,20 @@ use pattern::{Refused, Spans};
 
 impl Printer {
     // A refusal: its number and its place.
-    pub fn refusal(&mut self, refused: Refused)
+    pub fn refusal(&mut self, number: usize, place: usize)
         ensures { Gathered self.old self.new }
     {
         self.bytes(b"refused ");
-        self.decimal(refused.refusal.number() as u64);
+        self.decimal(number as u64);
         self.bytes(b" ");
-        self.decimal(refused.place as u64);
+        self.decimal(place as u64);
+    }
+
+    // The refusal that a call answers.
+    pub fn refused(&mut self, refused: Refused)
+        ensures { Gathered self.old self.new }
+    {
+        self.refusal(refused.refusal.number(), refused.place);
     }
 
     // A row after a space: its start and end, or a dash where it is absent.
@@ -67,7 +74,7 @@ impl Printer {
                 u64::from(found.steps),
                 groups,
             ),
-            Err(refused) => self.refusal(refused),
+            Err(refused) => self.refused(refused),
         }
     }
 }

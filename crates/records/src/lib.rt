@@ -8,7 +8,7 @@ ghost use Rattle.records.specs.Header.{Shows};
 // The bytes before a body: its length and its kind.
 pub const BEFORE_BODY: usize = 4;
 
-// A record that is all there: its kind's number, and where its body starts and ends.
+// A record that is all there: its kind's number, as patterns, templates and jobs have kinds of their own, and where its body starts and ends.
 #[derive(Clone, Copy, Debug, PartialEq, Eq)]
 pub struct Header {
     pub kind: usize,

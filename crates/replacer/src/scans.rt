@@ -41,7 +41,7 @@ impl Scan<'_, '_, '_> {
         turns::turn_of(self.sources.line.len(), last, ran.rows, ran.steps)
     }
 
-    // Appends what the scan of the whole line writes to the output.
+    // Appends what the scan of the whole line writes to the output. No `for`: where the next search starts is what the turn says.
     pub fn append_to<O: Output>(self, scratch: &mut Scratch, output: &mut O) -> Scanned
         requires roomy { Roomy self.machine.places self.machine.depth scratch.old }
         requires room { O.has_room output.old (whole_of self.machine.pattern.now self.sources.template.now self.sources.line.now).output }

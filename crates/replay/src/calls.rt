@@ -74,7 +74,7 @@ fn check(pattern: &[u8], p: &mut Printer)
             p.bytes(b"ok");
             print_numbers(&[numbers.places, numbers.depth, numbers.groups], p);
         }
-        Err(refused) => p.refusal(refused),
+        Err(refused) => p.refused(refused),
     }
 }
 
@@ -97,7 +97,7 @@ fn find_in(call: Call, pattern: &[u8], line: &[u8], table: &mut [u16], p: &mut P
             p.bytes(if matched { b"whole " } else { b"none " });
             p.decimal(u64::from(steps));
         }
-        Err(refused) => p.refusal(refused),
+        Err(refused) => p.refused(refused),
     }
     print_table(table, p);
 }
@@ -130,7 +130,7 @@ fn replace(pattern: &[u8], template: &[u8], line: &[u8], buffer: &mut [u8], p: &
             print_change(rest, p);
         }
         Err(refused) => {
-            p.refusal(refused);
+            p.refused(refused);
             print_change(buffer, p);
         }
     }
@@ -159,6 +159,6 @@ fn piece(template: &[u8], line: &[u8], table: &[u16], number: usize, p: &mut Pri
             p.bytes(b" ");
             p.byte_string(template::part(template, line, table, number));
         }
-        Err(refused) => p.refusal(refused),
+        Err(refused) => p.refused(refused),
     }
 }

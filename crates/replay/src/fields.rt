@@ -70,7 +70,7 @@ impl<'a, 'b> Fields<'a, 'b> {
     }
 }
 
-// The value of a hexadecimal digit in lower case.
+// The value of a hexadecimal digit in lower case; the library's methods take capitals too.
 fn digit(b: u8) -> Option<u8>
     ensures { IfSome result (λ d. d < 16) }
 {

@@ -30,13 +30,13 @@ fn print_job(bytes: &[u8], p: &mut Printer) -> Result<(), Broken>
             print_lines(&bytes[end..], pattern, numbers.groups, p)
         }
         Err(refused) => {
-            job::print_refused(p, refused);
+            job::print_refused(p, refused.refusal.number(), refused.place);
             Ok(())
         }
     }
 }
 
-// The lines of a job, which stand behind its pattern.
+// The lines of a job, which stand behind its pattern. No `for`: where the next record stands is what this one says.
 fn print_lines(lines: &[u8], pattern: &[u8], groups: usize, p: &mut Printer) -> Result<(), Broken>
     ensures { Gathered p.old p.new }
 {
@@ -49,7 +49,7 @@ fn print_lines(lines: &[u8], pattern: &[u8], groups: usize, p: &mut Printer) -> 
             Ok(Found { matched, steps }) => {
                 job::print_line(p, number, matched.then_some(rows), u64::from(steps), groups);
             }
-            Err(refused) => job::print_refused(p, refused),
+            Err(refused) => job::print_refused(p, refused.refusal.number(), refused.place),
         }
         next = end;
     }

@@ -18,7 +18,7 @@ pub struct Ran {
     pub rows: Option<[u16; Spans::NUMBERS]>,
 }
 
-// The threads of a list at one position, in order, until one wins; whether one does.
+// The first threads of a list, so many, at one position, in order, until one wins; whether one does. The list has room behind them, as the other has for a winner.
 fn step(
     table: Table,
     position: Position,

@@ -17,7 +17,7 @@ use pattern::{Numbers, Refused};
 use replacer::Replaced;
 use template::Span;
 
-// The status of an answer, which is no refusal's number.
+// The status of an answer for C, which is no refusal's number.
 const ANSWERED: u32 = 0;
 
 // What a call answers where it is not refused: so many numbers.

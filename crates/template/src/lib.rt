@@ -48,7 +48,7 @@ impl Span {
     }
 }
 
-// The two kinds of a template's records.
+// The two kinds of a template's records, numbers of the format that are met once: `Record` is their enum.
 const LITERAL: usize = 32;
 
 const REFERENCE: usize = 33;

@@ -1,4 +1,4 @@
--- How
+-- How the code's values are read as the definitions', and what the functions are given and promise.
 pub mod Accepted
 pub mod Appended
 pub mod Output
