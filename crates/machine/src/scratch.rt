@@ -14,6 +14,7 @@ pub struct Scratch<'a> {
 }
 
 // The sizes of the scratch for a machine of few places and levels, as most patterns have: a call that owns its scratch has less to clear.
+// The sums are those of `Machine`: an array's length is not computed from a const parameter.
 #[derive(Clone, Copy)]
 pub struct Small {}
 

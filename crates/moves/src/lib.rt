@@ -65,7 +65,7 @@ fn in_range(low: usize, high: usize, byte: u8) -> bool
     (low..=high).contains(&usize::from(byte))
 }
 
-// Whether ranges of the pattern, left to right, hold a byte.
+// Whether ranges of the pattern, left to right, hold a byte. By a `for`, since `any` over pairs is not proved.
 fn in_set(pattern: &[u8], offset: usize, count: usize, byte: u8) -> bool
     requires { offset + 2 * count ≤ length pattern.now }
     ensures { result ≡ in_set (ranges_of (part pattern.now offset (offset + 2 * count))) byte }

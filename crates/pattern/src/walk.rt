@@ -22,6 +22,7 @@ pub struct Walked {
 }
 
 // What the walk of the records in a holder counts: how many there are, their places up to the limit, their depth, and the groups up to their end.
+// Not a pattern's `Numbers` inside: here places are counted up to the limit, without the accepting one.
 #[derive(Clone, Copy)]
 pub struct Members {
     pub count: usize,
@@ -200,7 +201,7 @@ impl Body<'_> {
         Ok(inner)
     }
 
-    // All the records inside a sequence or an alternation, left to right. No `for`: where the next one stands is what walking this one answers.
+    // All the records inside a sequence or an alternation, left to right.
     #[cycle(reading)]
     #[inline(always)]
     fn all(self, before: usize) -> Result<Members, Refused>

@@ -68,6 +68,7 @@ pub fn replace_all(
     let mut code = [0u16; Machine::CODE];
     let numbers = machine::build(pattern, true, &mut code)?;
     template::references_within(template, numbers.groups)?;
+    // 11 alone, without `lent`: no table is lent here
     if Line::BYTES < line.len() {
         return Err(Refusal::LineTooLong.at(0));
     }
