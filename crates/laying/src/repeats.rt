@@ -19,6 +19,7 @@ pub struct Pass {
 }
 
 // The passes of a repeat: how many must be made and how many may, whether there is no upper end, the mode, where they stand and what follows them.
+// What is asked of them stays a clause: some of them are made of others by `..`, which takes no struct with ghost fields.
 #[derive(Clone, Copy)]
 pub struct Passes {
     pub pass: Pass,

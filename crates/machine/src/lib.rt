@@ -60,7 +60,8 @@ impl Machine<'_> {
     // the most steps that can be told
     pub const STEPS: usize = 4294967295;
 
-    // The machine on a line from a position on.
+    // The machine on a line from a position on. `Runnable`, here and below, speaks of machine, line and scratch at once, of which no one struct is made:
+    // a machine is run on many lines, and scratch is lent from call to call.
     pub fn run_built(self, line: &[u8], from: usize, scratch: &mut Scratch) -> Ran
         requires { Runnable self.places self.depth line.now from scratch.old }
         ensures runs { RunsFrom self.entry.pattern.now self.entry.code.now line.now self.entry.places self.entry.depth from result }

@@ -4,7 +4,6 @@ use mathlib.Core.Path.{◌≡◌, refl, sym, ap, ◌∙◌, subst}
 use mathlib.Core.Bool.{Bool, true, false, cond, ◌&&◌}
 use mathlib.Core.List.{List, [], ◌∷◌}
 use native.Mathlib.Omega.{arith}
-use native.Mathlib.Decide.{ℕ_discrete}
 use native.Mathlib.Nat.{suc-mul, zero-mul, one-mul, add-mul}
 use native.Mathlib.Numerals.{add-one}
 use borrow.Author.Tests.{ne_eqb, eq-eqb, eqb-true}
@@ -19,7 +18,7 @@ use Rattle.paper.specs.Machine.{Place, Thread, at, State, Move, follow, move_at}
 use Rattle.paper.specs.Tables.{place_of}
 use Rattle.paper.proofs.reading.RowLaws.{length_clear}
 use Rattle.moves.specs.Shows.{AheadIn}
-use Rattle.moves.specs.Moves.{level_after, Slots, takes_at, Eats, Leads}
+use Rattle.moves.specs.Moves.{level_after, takes_at, Eats, Leads}
 use Rattle.moves.proofs.Ranges.{ahead_none, takes_ahead, takes_none, or_false}
 
 -- ---- the byte that a place takes
@@ -169,11 +168,3 @@ module _ (kind a n p places floor : ℕ) (rows : Rows) where
 
   pub leads_nowhere : 0 < places → kind ≡ 5 → (floor ≡ 0 → ⊥) → Leads kind a n p places floor rows None rows
   leads_nowhere some e high = end_known some e None (sym (ne_eqb floor 0 high)) tt
-
--- the rows that a begin clears, optional or not, exist
-pub begin_slots : (kind a n : ℕ) → 0 < kind → kind < 6 → (kind ≡ 1 → ⊥) → (kind ≡ 2 → ⊥) → (kind ≡ 5 → ⊥) → Slots kind a n → a + n ≤ 10
-begin_slots kind a n low high n1 n2 n5 slots = look (ℕ_discrete kind 3)
-  where
-    look : Dec (kind ≡ 3) → a + n ≤ 10
-    look (yes e) = slots.begins e
-    look (no ne) = slots.begins_optional (omega arith)

@@ -1,6 +1,6 @@
 -- The whole check: the length, the walk, the bytes behind the record and the places, one law a way out; and the promise allows one answer only.
 use Prim.Native.Nat.{ℕ, ◌+◌, ◌≤◌, ◌<◌}
-use mathlib.Core.Path.{◌≡◌, refl, sym, ap, subst, ◌∙◌}
+use mathlib.Core.Path.{◌≡◌, sym, ap, subst, ◌∙◌}
 use mathlib.Core.Logic.{◌↔◌}
 use mathlib.Core.Bool.{true}
 use mathlib.Core.List.{List}
@@ -8,18 +8,17 @@ use native.Mathlib.Omega.{arith}
 use lib.Dec.{leb, eqb}
 use lib.ListN.{length}
 use borrow.Author.Tests.{le-leb, lt-leb, eq-eqb, ne_eqb}
-use Rattle.std.specs.Prelude.{Result, Ok, Err}
+use Rattle.std.specs.Prelude.{Result, Ok}
 use Rattle.paper.specs.Limits.{pattern_bytes, pattern_levels, pattern_places}
 use Rattle.paper.specs.Refusal.{Checked, refused, accepted, ◌>>=◌, ◌>>◌, holds, pattern_too_long, broken_record, too_many_places}
 use Rattle.paper.specs.Pattern.{Pattern, places, depth, groups, all_places}
 use Rattle.paper.specs.Layout.{record_of, Lawful}
-use Rattle.paper.specs.Check.{body_end, walk_record, pattern_of, Numbers, numbers_of, check}
+use Rattle.paper.specs.Check.{body_end, walk_record, Numbers, numbers_of, check}
 use Rattle.paper.proofs.layout.Standing.{Bytes}
 use Rattle.paper.proofs.layout.Lawful.{check_exactly}
 use Rattle.pattern.specs.declared.Numbers as declared
 use Rattle.pattern.specs.declared.Refused.{Refused}
 use Rattle.pattern.specs.declared.walk.Walked.{Walked}
-use Rattle.pattern.specs.Refusals.{number_of}
 use Rattle.pattern.specs.Walk.{capped, Counts}
 use Rattle.pattern.specs.Answer.{in_words, answer_of, Checks}
 use Rattle.pattern.proofs.Differing.{checked_differ}
@@ -84,39 +83,6 @@ promised {bs} {r} small q = record {
       (λ (told : Checked Numbers). (told ≡ accepted numbers) ↔ ((e : Pattern) × Lawful e × (record_of e ≡ bs) × (numbers_of e ≡ numbers)))
       (sym q) (check_exactly bs small numbers);
 }
-
--- ---- what a caller learns
-
--- the tree that was taken, and that the numbers are its own
-pub record Taken (bs : List ℕ) (numbers : declared.Numbers) : Type 0 where
-  pub tree : Pattern
-  pub is : pattern_of bs ≡ accepted tree
-  pub places_right : numbers.places ≡ all_places tree
-  pub depth_right : numbers.depth ≡ depth tree
-  pub groups_right : numbers.groups ≡ groups tree
-
--- numbers are answered of a tree
-pub taken_tree : {bs : List ℕ} {numbers : declared.Numbers} → Checks bs (Ok numbers) → Taken bs numbers
-taken_tree {bs} {numbers} c = look (pattern_of bs) refl c.answer where
-  look : (found : Checked Pattern) → pattern_of bs ≡ found → answer_of (Ok numbers) ≡ (found >>= λ e. accepted (numbers_of e)) → Taken bs numbers
-  look (refused number place) e q = let z : ◌≡◌ {A = ℕ} 0 1 = cc in absurd (omega arith)
-  look (accepted tree) e q =
-      let same : ◌≡◌ {A = Numbers} (record { places = numbers.places; depth = numbers.depth; groups = numbers.groups }) (numbers_of tree) = cc in
-      record {
-        tree = tree;
-        is = e;
-        places_right = ap (λ (n : Numbers). n.places) same;
-        depth_right = ap (λ (n : Numbers). n.depth) same;
-        groups_right = ap (λ (n : Numbers). n.groups) same;
-      }
-
--- a refusal is answered of a refused pattern
-pub refused_pattern : {bs : List ℕ} {r : Refused} → Checks bs (Err r) → pattern_of bs ≡ refused (number_of r.refusal) r.place
-refused_pattern {bs} {r} c = look (pattern_of bs) refl c.answer where
-  look : (found : Checked Pattern) → pattern_of bs ≡ found → answer_of (Err r) ≡ (found >>= λ e. accepted (numbers_of e))
-      → pattern_of bs ≡ refused (number_of r.refusal) r.place
-  look (refused n p) e q = e ∙ cc
-  look (accepted tree) e q = let z : ◌≡◌ {A = ℕ} 0 1 = cc in absurd (omega arith)
 
 -- ---- one answer
 

@@ -99,13 +99,6 @@ module _ (bs : List ℕ) (s t : Records) (same : s.template.now ≡ bs) where
 
 -- ---- what the number of records tells
 
-pub counted_wrong : (bs : List ℕ) (place : ℕ) → refused template_wrong place ≡ record_count bs → template_of bs ≡ refused template_wrong place
-counted_wrong bs place is = look (template_of bs) is
-  where
-    look : (found : Checked (List Piece)) → refused template_wrong place ≡ (found >>= λ pieces. accepted (length pieces)) → found ≡ refused template_wrong place
-    look (refused number at) is = cc
-    look (accepted pieces) is = cc
-
 pub counted_right : (bs : List ℕ) (count : ℕ) → accepted count ≡ record_count bs
     → (pieces : List Piece) × (template_of bs ≡ accepted pieces) × (count ≡ length pieces)
 counted_right bs count is = look (template_of bs) refl is
