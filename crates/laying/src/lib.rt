@@ -8,6 +8,7 @@ mod table;
 
 ghost use Rattle.std.specs.Prelude.{◌≡◌};
 ghost use Rattle.paper.specs.Tables.{fork_place};
+ghost use Rattle.pattern.specs.Kinds.{place_number};
 ghost use Rattle.laying.specs.Laid.{entry_of};
 ghost use Rattle.laying.specs.Places.{four_numbers, Fits, Puts};
 ghost use Rattle.laying.specs.Lent.{Writes};
@@ -27,11 +28,11 @@ pub struct Place {
 
 impl Place {
     // A place of a kind whose one number is its follower.
-    pub fn plain(kind: u16, next: usize) -> Place
-        ensures { result ≡ four_numbers kind next 0 0 }
+    pub fn plain(kind: PlaceKind, next: usize) -> Place
+        ensures { result ≡ four_numbers (place_number kind) next 0 0 }
     {
         Place {
-            kind,
+            kind: kind as u16,
             next,
             a: 0,
             n: 0,
@@ -129,6 +130,6 @@ impl Table<'_> {
         self.pass_fork(base, mode, base + 1, next);
         self.put(base + 1, begin);
         self.put(inside, range);
-        self.put(end, Place::plain(PlaceKind::End as u16, base));
+        self.put(end, Place::plain(PlaceKind::End, base));
     }
 }

@@ -121,7 +121,7 @@ impl Passes {
             table.pass_fork(from, self.mode, begin, self.next);
             self.pass
                 .begun(table, PlaceKind::BeginOptional as u16, begin, end);
-            table.put(end, Place::plain(PlaceKind::End as u16, out));
+            table.put(end, Place::plain(PlaceKind::End, out));
             from = after;
         }
     }

@@ -31,7 +31,7 @@ pub fn build_match(pattern: &[u8], table: &mut [u16], places: usize, groups: usi
         next: places,
     };
     whole.one(&mut lent);
-    lent.put(places, Place::plain(PlaceKind::Accept as u16, 0));
+    lent.put(places, Place::plain(PlaceKind::Accept, 0));
     places + 1
 }
 
@@ -57,6 +57,6 @@ pub fn build_search(pattern: &[u8], table: &mut [u16], places: usize, groups: us
     lent.any_star(0, Pattern::LAZY, 4, 0);
     whole.captured(&mut lent, 0);
     lent.any_star(second, Pattern::GREEDY, end, groups + 1);
-    lent.put(end, Place::plain(PlaceKind::Accept as u16, 0));
+    lent.put(end, Place::plain(PlaceKind::Accept, 0));
     end + 1
 }

@@ -114,7 +114,7 @@ impl Part<'_> {
             return;
         }
         match known_kind(self.pattern, self.at) {
-            Kind::Nothing => table.put(self.base, Place::plain(PlaceKind::Stop as u16, 0)),
+            Kind::Nothing => table.put(self.base, Place::plain(PlaceKind::Stop, 0)),
             Kind::Empty => {}
             Kind::Bytes => table.set_place(
                 self.pattern,

@@ -49,7 +49,7 @@ impl<'a, 'b> Fields<'a, 'b> {
         Some(bytes)
     }
 
-    // The number of the next field.
+    // The number of the next field, by hand: the library's method takes a sign, and more than nine digits.
     pub fn number(&mut self) -> Option<usize>
         ensures { IfSome result (λ n. n < 1000000000) }
     {

@@ -44,6 +44,7 @@ pub fn visit(
         numbers: pending,
         count: 0,
     };
+    // no iterator: what comes next is where this place leads, or the branch on top
     loop {
         if threads::mark(state.seen, floor + place, position.at + 1) {
             state.steps += 1;
