@@ -74,7 +74,7 @@ pub fn print_numbers(p: &mut Printer, numbers: Numbers)
     p.bytes(b"\n");
 }
 
-// The refusal of the pattern.
+// The refusal of the pattern, by its number and place, of which either may be any number.
 pub fn print_refused(p: &mut Printer, number: usize, place: usize)
     ensures { Gathered p.old p.new }
 {

@@ -6,7 +6,7 @@ use crate::words::labelled;
 use pattern::PlaceKind;
 use printer::Printer;
 
-// The four numbers of a place.
+// The four numbers of a place as they stand in the table; `moves` and `laying` have theirs as indices, and the crates do not use one another.
 #[derive(Clone, Copy)]
 struct Place {
     kind: u16,

@@ -7,7 +7,7 @@ use matcher::Found;
 use pattern::{Refused, Spans};
 
 impl Printer {
-    // A refusal: its number and its place.
+    // A refusal: its number and its place, of which either may be any number; one that a call answers goes by `refused`.
     pub fn refusal(&mut self, number: usize, place: usize)
         ensures { Gathered self.old self.new }
     {

@@ -130,7 +130,7 @@ impl Printer {
         }
     }
 
-    // A byte as two hexadecimal digits in lower case.
+    // A byte as two hexadecimal digits in lower case. It is no twin of `decimal`: room, digits and whether they are coded differ, so one text says no less.
     pub fn hex(&mut self, b: u8)
         ensures { Gathered self.old self.new }
     {

@@ -35,6 +35,7 @@ impl<'a, 'b> Fields<'a, 'b> {
     // The byte string of the next field; a dot stands for the empty one.
     pub fn bytes(&mut self) -> Option<&'b [u8]> {
         let word = self.word()?;
+        // one test, before the digits
         if word == b".".as_slice() {
             return Some(&[]);
         }
