@@ -23,7 +23,8 @@ pub fn found(p: &mut Printer, searches: bool, pattern: &[u8], line: &[u8], group
     words::end_line(p);
 }
 
-// Replace-all: its output and the numbers that it answers.
+// Replace-all: its output and the numbers that it answers. Not inlined: what replace-all keeps on the stack would be `main`'s, through all other calls.
+#[inline(never)]
 pub fn replaced(p: &mut Printer, pattern: &[u8], template: &[u8], line: &[u8])
     ensures { Gathered p.old p.new }
 {

@@ -3,7 +3,7 @@ use Prim.Native.Nat.{ℕ, zero, suc, ◌+◌, ◌-◌, ◌*◌, ◌≤◌}
 use mathlib.Core.Path.{◌≡◌, refl, sym, ap, subst, ◌∙◌}
 use mathlib.Core.Bool.{Bool, true, false, cond}
 use mathlib.Core.List.{List}
-use native.Mathlib.Nat.{suc-mul, zero-mul}
+use native.Mathlib.Nat.{suc-mul, zero-mul, mul-le-mul_left}
 use native.Mathlib.Omega.{arith}
 use borrow.Author.Tests.{eq-eqb, ne_eqb}
 use lib.Dec.{eqb}
@@ -156,6 +156,11 @@ star_lays t bs mode first n e base next p ep =
     → Lays t bs e (base + 1 + 1) (base + 1 + 1 + p) → Holds t bs (base + 1 + 1 + p) (ending base) → Lays t bs (star mode first n e) base next)
     (sym ep)
     (λ a b c d. (a, b, c, d))
+
+-- a run of passes has at least a place a pass
+pub passes_count : (least may p : ℕ) → least + may ≤ pass_places least may p
+passes_count least may p =
+    omega (arith, mul-le-mul_left {m = 1} {n = 1 + p} least (omega arith), mul-le-mul_left {m = 1} {n = 3 + p} may (omega arith))
 
 -- where the end of an optional pass leads is a place
 pub end_small : (endless : Bool) (n base after next : ℕ) {most : ℕ} → base ≤ most → after ≤ most → next ≤ most

@@ -41,6 +41,17 @@ model_apart : {model p wanted base low high : ℕ} {t t1 : List ℕ} (e : Core) 
 model_apart e bs next ep (in_place same) lo hi k = lays_behind e bs _ next k (omega arith)
 model_apart e bs next ep (ahead first) lo hi k = lays_kept e bs _ next k (omega arith)
 
+-- `begun`: its head fits
+pub begin_fits : {model p kind first g base next v : ℕ} {t : List ℕ} → Begun model p kind first g base next → 2040 ≤ length t → v ≡ entry_of p (base + 1) next
+    → Fitting t base v first g
+begin_fits {p = p} {base = base} {next = next} m room ev =
+    record {
+      room = omega (arith, m.room);
+      next_fits = omega (arith, ev, entry_small p (base + 1) next {most = 65535} (omega (arith, m.room)) (omega (arith, m.follows)));
+      a_fits = omega (arith, m.head.a_small);
+      n_fits = omega (arith, m.head.n_small);
+    }
+
 -- the head and the copy
 pub begun_laid : {model p kind first g base next v : ℕ} {t t1 t2 : List ℕ} → Begun model p kind first g base next → v ≡ entry_of p (base + 1) next
     → Put t base kind v first g t1 → Copied model p (base + 1) next p t1 t2 → BegunLaid model p kind first g base next t t2
@@ -262,6 +273,18 @@ left_may i some ev f h end =
       asked = may_rest i.asked refl some;
       same_length = end.kept.same_length ∙ h.kept.same_length ∙ f.kept.same_length ∙ i.same_length;
       all = λ after r. i.all after (may_laid i.asked refl some f h end r ev);
+    }
+
+-- its fork fits
+pub left_fork : {model p first g least may mode base next left from : ℕ} {endless : Bool} {t0 t : List ℕ}
+    → PassesLeft model p first g least may endless mode base next 0 left from t0 t → (left ≡ 0 → ⊥) → 2040 ≤ length t0 → Fitting t from (from + 1) next 0
+left_fork {p = p} {left = left} i some room =
+    let total = places_may 0 left p refl some in
+    record {
+      room = omega (arith, i.asked.room, i.same_length);
+      next_fits = omega (arith, i.asked.room);
+      a_fits = omega (arith, i.asked.follows);
+      n_fits = omega arith;
     }
 
 -- none is left

@@ -25,7 +25,7 @@ use Rattle.run.specs.Steps.{Running, Runs, stopped_as}
 use Rattle.run.specs.declared.Ran.{Ran}
 use Rattle.machine.specs.Machine.{wrapped, first_group, Ready, RunsFrom, found_of, MatchGives, SearchGives}
 use Rattle.machine.specs.declared.scratch.Scratch.{Scratch}
-use Rattle.machine.specs.Scratch.{lists_numbers, pending_numbers, Lasts}
+use Rattle.machine.specs.Scratch.{lists_numbers, pending_numbers, Lasts, Runnable}
 use Rattle.machine.proofs.Wiring.{ready_places, ready_pairs, ready_wired}
 
 -- a machine that is ready can be run in scratch of its sizes
@@ -146,3 +146,19 @@ lasts_on k m = record {
   lists_same = m.lists_same ∙ k.lists_same;
   pending_same = m.pending_same ∙ k.pending_same;
 }
+
+-- a run that may start at the line's start may start at any position of it, in scratch that lasts
+pub runs_on : {places deep : ℕ} {line : List ℕ} {s s' : Scratch} → Runnable places deep line 0 s → {from : ℕ} → from ≤ length line
+    → Lasts s s' → Runnable places deep line from s'
+runs_on r inside kept =
+    record {
+      short = r.short;
+      starts = inside;
+      roomy =
+          record {
+            seen_long = omega (arith, r.roomy.seen_long, kept.seen_same);
+            taken_long = omega (arith, r.roomy.taken_long, kept.taken_same);
+            lists_long = omega (arith, r.roomy.lists_long, kept.lists_same);
+            pending_long = omega (arith, r.roomy.pending_long, kept.pending_same);
+          };
+    }

@@ -2,10 +2,12 @@
 use Prim.Native.Nat.{ℕ, zero, suc, ◌+◌, ◌*◌, ◌≤◌, ◌<◌}
 use native.Mathlib.Omega.{arith}
 use native.Mathlib.Nat.{mul-le-mul, mul-le-mul_right, mul_comm, add-mul}
-use mathlib.Core.Path.{◌≡◌, sym, ap, subst, ◌∙◌}
-use mathlib.Core.Bool.{Bool, true, false}
+use mathlib.Core.Path.{◌≡◌, refl, sym, ap, subst, ◌∙◌}
+use mathlib.Core.Bool.{Bool, true, false, cond}
 use mathlib.Core.List.{List}
+use lib.Dec.{leb, ltb}
 use lib.ListN.{length, get_or}
+use borrow.Author.Tests.{leb-true, ltb-true}
 use Rattle.paper.specs.Limits.{pattern_levels, row_count}
 use Rattle.paper.specs.Pattern.{Pattern, all_places, depth, groups}
 use Rattle.paper.specs.Layout.{Lawful}
@@ -21,7 +23,7 @@ use Rattle.laying.specs.Laid.{Readable}
 use Rattle.laying.specs.Room.{most_places}
 use Rattle.machine.specs.declared.scratch.Scratch.{Scratch}
 use Rattle.machine.specs.Machine.{wrapped, first_group, Ready}
-use Rattle.machine.specs.Scratch.{lists_numbers, pending_numbers, Roomy}
+use Rattle.machine.specs.Scratch.{lists_numbers, pending_numbers, small_places, small_levels, fits_small, Roomy}
 
 -- what is known of the place that four numbers stand for
 record Known (pattern : List ℕ) (deep : ℕ → ℕ) (places x kind next a n : ℕ) : Type 0 where
@@ -152,3 +154,21 @@ ready_scratch m s t l p = record {
   lists_long = omega (arith, ready_places m, l);
   pending_long = omega (arith, ready_places m, p);
 }
+
+-- and small scratch for a small one
+pub small_scratch : {places deep : ℕ} → fits_small places deep ≡ true
+    → {scratch : Scratch} → length scratch.seen.now ≡ small_places * small_levels → length scratch.taken.now ≡ small_places
+    → length scratch.lists.now ≡ lists_numbers small_places → length scratch.pending.now ≡ pending_numbers small_places → Roomy places deep scratch
+small_scratch {places} {deep} fits s t l p =
+    let (few, below) = look (leb places small_places) refl fits in
+    let low : deep + 1 ≤ small_levels = omega arith in
+    record {
+      seen_long = omega (arith, mul-le-mul few low, s);
+      taken_long = omega (arith, t);
+      lists_long = omega (arith, l);
+      pending_long = omega (arith, p);
+    }
+  where
+    look : (b : Bool) → leb places small_places ≡ b → cond b (ltb deep small_levels) false ≡ true → (places ≤ small_places) × (deep < small_levels)
+    look true e h = (leb-true places small_places e, ltb-true deep small_levels h)
+    look false e h = let z : ◌≡◌ {A = ℕ} 0 1 = cc in absurd (omega arith)

@@ -4,10 +4,12 @@ use Prim.Native.Nat.{ℕ, zero, suc, ◌+◌, ◌-◌, ◌≤◌, max}
 use mathlib.Core.Path.{◌≡◌, refl, ap, sym, ◌∙◌}
 use mathlib.Core.Bool.{Bool, true, false, cond}
 use mathlib.Core.List.{List, [], ◌∷◌}
+use mathlib.Core.Logic.{⊎_elim}
+use native.Mathlib.Nat.{eq-zero-or-pos}
 use native.Mathlib.Omega.{arith}
-use lib.Dec.{ltb}
+use lib.Dec.{ltb, eqb}
 use lib.ListN.{length}
-use borrow.Author.Tests.{le-leb}
+use borrow.Author.Tests.{le-leb, eq-eqb, ne_eqb}
 use Rattle.std.specs.Prelude.{Result, Ok, Err}
 use Rattle.paper.specs.Refusal.{Checked, accepted, ◌>>=◌, ◌>>◌, holds, repeat_wrong}
 use Rattle.paper.specs.Pattern.{Pattern, Members, places, depth, groups, count, places_of_all, depth_of_all, groups_of_all}
@@ -56,6 +58,13 @@ module _ (bs : List ℕ) (at stop before : ℕ) where
   one_level (suc left) kind n le known =
       let e : suc left - 1 ≡ left = omega arith in
       rw (e, le-leb (body_end bs at) stop le, among kind (kind_at bs at) known)
+
+-- a body is empty where it ends as it starts
+pub no_body : (start n : ℕ) → eqb start (start + n) ≡ eqb n 0
+no_body start n = ⊎_elim
+    (λ z. eq-eqb start (start + n) (omega arith) ∙ sym (eq-eqb n 0 z))
+    (λ pos. ne_eqb start (start + n) (λ e. omega arith) ∙ sym (ne_eqb n 0 (λ e. omega arith)))
+    (eq-zero-or-pos n)
 
 -- ---- a repeat
 

@@ -1,7 +1,8 @@
 // The job on standard input: its bytes are read in blocks through a window of a buffer, so that no length of the job is too long.
-ghost use Rattle.std.specs.Prelude.{ℕ, ◌≡◌, ◌≤◌, List, [], length, drop, take};
+ghost use Rattle.std.specs.Prelude.{◌≡◌, ◌≤◌, ◌+◌, ◌↔◌, [], IsTrue, length, drop};
 ghost use Rattle.paper.specs.Check.{part};
-ghost use Rattle.pick.specs.Window.{Grown};
+ghost use Rattle.pick.specs.declared.input.Behind.TheVariants.{More, Unreadable};
+ghost use Rattle.pick.specs.Window.{Window, Grown};
 
 use job::Job;
 use std::io::Stdin;
@@ -19,7 +20,7 @@ enum Behind {
     Unreadable,
 }
 
-// The input; contracts see the bytes that are read and not yet used.
+// The input; contracts see of it a `Window`.
 #[derive(Drop)]
 pub struct Input {
     from: Stdin,
@@ -30,16 +31,16 @@ pub struct Input {
 }
 
 impl Model for Input {
-    ghost Value = { List ℕ };
+    ghost Value = { Window };
 
-    ghost view = { λ i. part i.buffer i.start i.end };
+    ghost view = { λ i. record { bytes = part i.buffer i.start i.end; start = i.start; behind = i.behind } };
 
     ghost invariant = { λ i. (i.start ≤ i.end) × (i.end ≤ 65536) };
 }
 
 impl Input {
     pub fn new(from: Stdin) -> Input
-        ensures { result ≡ [] }
+        ensures { result ≡ record { bytes = []; start = 0; behind = More } }
     {
         Input {
             from,
@@ -52,7 +53,7 @@ impl Input {
 
     // The bytes that are read and not yet used.
     pub fn bytes(&self) -> &[u8]
-        ensures { result.now ≡ self.now }
+        ensures { result.now ≡ self.now.bytes }
     {
         &self.buffer[self.start..self.end]
     }
@@ -60,20 +61,22 @@ impl Input {
     // Leaves out the first of them, which are used.
     #[tactic(auto, using(crate::proofs::Windows::part_later))]
     pub fn consume(&mut self, n: usize)
-        requires { n ≤ length self.old }
-        ensures { self.new ≡ drop n self.old }
+        requires { n ≤ length self.old.bytes }
+        ensures { self.new ≡ record { bytes = drop n self.old.bytes; start = self.old.start + n; behind = self.old.behind } }
     {
         self.start += n;
     }
 
     // Whether the input could not be read.
-    pub fn failed(&self) -> bool {
+    pub fn failed(&self) -> bool
+        ensures { IsTrue result ↔ self.now.behind ≡ Unreadable }
+    {
         self.behind == Behind::Unreadable
     }
 
     // Moves the bytes to the buffer's start, so that there is room behind them.
     fn move_to_front(&mut self)
-        ensures { self.new ≡ self.old }
+        ensures { self.new ≡ record self.old { start = 0 } }
     {
         self.buffer.copy_within(self.start..self.end, 0);
         self.end -= self.start;
@@ -83,7 +86,7 @@ impl Input {
     // Reads once behind them.
     #[tactic(auto, using(crate::proofs::Windows::grown_read))]
     fn read_more(&mut self)
-        ensures { Grown self.old self.new }
+        ensures { Grown self.old.bytes self.new.bytes }
     {
         match printer::read(self.from, &mut self.buffer[self.end..]) {
             Ok(0) => self.behind = Behind::Nothing,
@@ -99,7 +102,7 @@ impl Input {
 
     // Reads until a whole record is there or the input has ended. A record has at most so many bytes, so as many turns are enough.
     pub fn fill(&mut self)
-        ensures { Grown self.old self.new }
+        ensures { Grown self.old.bytes self.new.bytes }
     {
         if self.is_enough() {
             return;

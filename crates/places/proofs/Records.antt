@@ -12,9 +12,9 @@ use Rattle.paper.specs.Machine.{Core, captures, size, written_out, opening, clos
 use Rattle.paper.proofs.machine.Sizes.{size_written}
 use Rattle.pattern.specs.declared.Kind.{Kind}
 use Rattle.laying.specs.Laid.{Holds, Kept, entry_of, Lays}
-use Rattle.laying.specs.Single.{Put, Ranged, RangedLaid}
+use Rattle.laying.specs.Single.{Fitting, Put, Ranged, RangedLaid, Head}
 use Rattle.laying.proofs.Stores.{put_holds, plain_holds, holds_kept, lays_kept, lays_none, kept_none, kept_both}
-use Rattle.laying.proofs.Entering.{at_least_one}
+use Rattle.laying.proofs.Entering.{entry_small, at_least_one}
 use Rattle.places.specs.Walk.{One, OneLaid, Group, GroupLaid, Several, SeveralLaid, Repeat, RepeatLaid}
 use Rattle.places.specs.Standing.{Row}
 use Rattle.places.specs.Sums.{number_of, KindAt}
@@ -74,6 +74,17 @@ set_laid {bs} {at} {base = base} {next = next} {first = first} {t' = t'} some tw
           let v = set_view m.tree bs at m.inside.stand two in
           let ranges = ap (λ (e : ℕ). ranges_of (part bs (at + 4) e)) (sym m.inside.end_is) ∙ v.pairs.found in
           as_tree t' bs first base next v.is (subst (λ (r : List Range). Holds t' bs base (one_of r next)) ranges r.held);
+    }
+
+-- a head, the place before an expression: its numbers fit
+pub head_fits : {bs t : List ℕ} {at stop base next first p g kind a n v : ℕ} → One bs at stop (base + 1) next first p g → Head kind a n → 2040 ≤ length t
+    → v ≡ entry_of p (base + 1) next → Fitting t base v a n
+head_fits {base = base} {next = next} {p = p} m h room ev =
+    record {
+      room = omega (arith, m.room);
+      next_fits = omega (arith, ev, entry_small p (base + 1) next {most = 65535} (omega (arith, m.room)) (omega (arith, m.follows)));
+      a_fits = omega (arith, h.a_small);
+      n_fits = omega (arith, h.n_small);
     }
 
 -- a group: its open, what it holds, its close

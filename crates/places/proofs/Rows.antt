@@ -17,7 +17,7 @@ use Rattle.laying.proofs.Stores.{plain_holds, holds_kept, lays_kept, kept_both}
 use Rattle.laying.proofs.Entering.{entry_small}
 use Rattle.places.specs.Sums.{Counting, Counted}
 use Rattle.places.specs.declared.walk.Part.{Part}
-use Rattle.places.specs.Walk.{One, OneLaid, Several, SeveralLaid, Joining, Joined, OneAsked, OneMade, RowAsked, RowMade}
+use Rattle.places.specs.Walk.{One, OneLaid, Several, SeveralLaid, Joining, Joined, OneAsked, OneMade, RowMade}
 use Rattle.places.specs.Standing.{Stands, Row, row_places, row_core}
 use Rattle.places.proofs.Adding.{row_long}
 use Rattle.places.proofs.Sizes.{row_size}

@@ -5,7 +5,8 @@ use mathlib.Core.Path.{◌≡◌, refl, sym, ap, subst, ◌∙◌}
 use mathlib.Core.Bool.{Bool, true, false, cond}
 use mathlib.Core.List.{List, [], ◌++◌, append-nil, append_assoc}
 use native.Mathlib.Omega.{arith}
-use lib.ListN.{length, drop}
+use lib.ListN.{length}
+use mathlib.Core.Option as math
 use mir.Val.{bool_byte}
 use Rattle.std.proofs.Common.{Option, Some, None, is_some, unwrap_or}
 use Rattle.paper.specs.Limits.{line_bytes}
@@ -13,18 +14,15 @@ use Rattle.paper.specs.Refusal.{accepted}
 use Rattle.paper.specs.Layout.{Lawful}
 use Rattle.paper.specs.Pattern.{Pattern}
 use Rattle.paper.specs.Check.{pattern_of}
-use Rattle.paper.specs.Match.{search_steps}
 use Rattle.paper.specs.Replace.{Scan, Scanned, precede}
-use Rattle.paper.specs.ScanTurn as paper
-use Rattle.paper.specs.ScanTurn.{turn_at, turn_bytes, TurnFits}
+use Rattle.paper.specs.ScanTurn.{turn_bytes, TurnFits}
 use Rattle.paper.proofs.replacing.ReplaceBound.{most_sum, replace_all_most}
 use Rattle.paper.proofs.replacing.ScanWays.{turn_count, turn_rest, ended, turn_fits, scan_from, scan_whole, scan_turn}
 use Rattle.paper.proofs.replacing.ScanLengths.{replace_all_short}
 use Rattle.machine.specs.Machine.{Ready}
 use Rattle.turns.specs.declared.Turn.{Turn}
 use Rattle.turns.specs.Accepted.{accepted_or, pieces_of, Right}
-use Rattle.turns.specs.Turn.{option_of, as_turn, kept}
-use Rattle.turns.proofs.Turning.{kept_bytes, kept_fits}
+use Rattle.turns.specs.Turn.{option_of, as_turn}
 use Rattle.replacer.specs.Given.{tree_of, whole_of}
 use Rattle.replacer.specs.Scans.{Turns}
 
@@ -56,26 +54,24 @@ left_of pattern template line goes last =
 
 -- ---- a turn of the scan
 
--- what follows a turn, by what the code keeps of it
-kept_rest : (scan : Scan) (t : paper.Turn) → turn_rest scan (kept t) ≡ turn_rest scan t
-kept_rest scan t = look t.goes
-  where
-    look : (goes : Bool) → cond goes (scan (cond goes t.next 0) t.last) ended ≡ cond goes (scan t.next t.last) ended
-    look true = refl
-    look false = refl
+-- what follows a turn, by where the code goes on
+rest_is : (scan : Scan) (goes : Option ℕ) (start : ℕ) (last : math.Option ℕ)
+    → cond (is_some goes) (scan (unwrap_or goes start) last) ended ≡ cond (is_some goes) (scan (unwrap_or goes 0) last) ended
+rest_is scan (Some next) start last = refl
+rest_is scan None start last = refl
 
 module _ {pattern line : List ℕ} (small : length line ≤ line_bytes) {from : ℕ} {last : Option ℕ} {t : Turn} (turns : Turns pattern line from last t)
     (inside : from ≤ length line) where
   pub turns_fit : TurnFits (length line) from (as_turn t)
   turns_fit =
       subst (TurnFits (length line) from) (sym turns.same)
-      (kept_fits (length line) from (turn_at (tree_of pattern) line from (option_of last)) (turn_fits (tree_of pattern) line from (option_of last) small inside))
+      (turn_fits (tree_of pattern) line from (option_of last) small inside)
 
   -- the scan goes on further in the line
   turns_further : (next : ℕ) → t.goes ≡ Some next → (from < next) × (next ≤ length line)
   turns_further next is =
       let there = turns_fit.further (ap is_some is) in
-      let same : unwrap_or t.goes 0 ≡ next = ap (λ (o : Option ℕ). unwrap_or o 0) is in
+      let same : unwrap_or t.goes t.start ≡ next = ap (λ (o : Option ℕ). unwrap_or o t.start) is in
       (omega (arith, there), omega (arith, there))
 
   pub turns_ahead : {goes : Option ℕ} → goes ≡ Some from → ahead line t.goes < ahead line goes
@@ -90,14 +86,13 @@ module _ {pattern line : List ℕ} (small : length line ≤ line_bytes) {from : 
       → left_of pattern template line (Some from) last
       ≡ precede (turn_bytes template line (pieces_of template) from (as_turn t)) (turn_count (as_turn t)) t.steps (left_of pattern template line t.goes t.last)
   turns_before template =
-      let turn = turn_at (tree_of pattern) line from (option_of last) in
       let scan = scan_from (tree_of pattern) template line (pieces_of template) in
+      let bytes = turn_bytes template line (pieces_of template) from (as_turn t) in
       scan_turn (tree_of pattern) template line (pieces_of template) small from (option_of last) inside
-      ∙ (λ i.
-      precede (sym (kept_bytes template line (pieces_of template) from turn) i) (turn_count turn) (search_steps (tree_of pattern) (drop from line)) (sym (kept_rest scan turn) i))
       ∙ sym
       (λ i.
       precede (turn_bytes template line (pieces_of template) from (turns.same i)) (turn_count (turns.same i)) (turns.counted i) (turn_rest scan (turns.same i)))
+      ∙ ap (precede bytes (turn_count (as_turn t)) t.steps) (rest_is scan t.goes t.start (option_of t.last))
 
 -- a flag counts one
 one : (b : Bool) → bool_byte b ≡ cond b 1 0
@@ -156,7 +151,7 @@ module _ {S : Type 0} (room : S → List ℕ → Type 0) (appends : S → List �
 
       pub scan_more : ((s t u : S) (xs ys : List ℕ) → appends s xs t → appends t ys u → appends s (xs ++ ys) u)
           → ((s t : S) (xs ys : List ℕ) → room s (xs ++ ys) → appends s xs t → room t ys) → {after : S} → appends output bytes after → {ones : ℕ}
-          → ones ≡ bool_byte (is_some t.put) → {more : ℕ} → more ≡ t.steps → Scanning t.goes t.last after (replacements + ones) (steps + more)
+          → ones ≡ bool_byte t.put → {more : ℕ} → more ≡ t.steps → Scanning t.goes t.last after (replacements + ones) (steps + more)
       scan_more both room_second {after} wrote {ones} counts {more} adds =
           record {
             inside = λ next is. (turns_further small turns (kept.inside from refl) next is).1;
@@ -164,17 +159,17 @@ module _ {S : Type 0} (room : S → List ℕ → Type 0) (appends : S → List �
             same = append_assoc kept.done bytes left.output ∙ ap (λ (s : Scanned). kept.done ++ s.output) (sym here) ∙ kept.same;
             appended = both entry output after kept.done bytes kept.appended wrote;
             has_room = room_second output after bytes left.output room_here wrote;
-            replaced = omega (arith, kept.replaced, ap (λ (s : Scanned). s.replaced) here, one (is_some t.put));
+            replaced = omega (arith, kept.replaced, ap (λ (s : Scanned). s.replaced) here, one t.put);
             stepped = omega (arith, kept.stepped, ap (λ (s : Scanned). s.steps) here);
           }
 
       -- and what is counted after it does not pass the limits
-      pub scan_fits : Right template → Lawful (tree_of pattern) → {ones : ℕ} → ones ≡ bool_byte (is_some t.put) → {more : ℕ} → more ≡ t.steps
+      pub scan_fits : Right template → Lawful (tree_of pattern) → {ones : ℕ} → ones ≡ bool_byte t.put → {more : ℕ} → more ≡ t.steps
           → (replacements + ones ≤ line_bytes + 1) × (steps + more ≤ most_sum)
       scan_fits right lawful {ones} counts {more} adds =
           let short = replace_all_short (tree_of pattern) template line (pieces_of template) right small in
           let most = replace_all_most (tree_of pattern) template line (pieces_of template) lawful small in (
-            omega (arith, kept.replaced, ap (λ (s : Scanned). s.replaced) here, one (is_some t.put), short.1),
+            omega (arith, kept.replaced, ap (λ (s : Scanned). s.replaced) here, one t.put, short.1),
             omega (arith, kept.stepped, ap (λ (s : Scanned). s.steps) here, most),
           )
 

@@ -16,7 +16,7 @@ use Rattle.paper.proofs.replacing.ScanTurns.{Ahead, match_ahead}
 use Rattle.run.specs.declared.Ran.{Ran}
 use Rattle.machine.specs.Machine.{Ready, Gives, SearchGives, found_of}
 use Rattle.turns.specs.declared.Turn.{Turn}
-use Rattle.turns.specs.Turn.{option_of, Finds, as_turn, kept}
+use Rattle.turns.specs.Turn.{option_of, Finds, as_turn}
 use Rattle.replacer.specs.Given.{tree_of}
 use Rattle.replacer.specs.Scans.{Turns}
 use Rattle.replacer.proofs.Scanning.{ready_accepts}
@@ -54,10 +54,10 @@ module _ {pattern code : List ℕ} {places deep : ℕ} (ready : Ready pattern co
       }
 
   -- and the turn that it makes
-  pub search_turns : (last : Option ℕ) (t : Turn) → (as_turn t ≡ kept (turn_of (length line) (option_of last) (option_of ran.rows))) × (t.steps ≡ ran.steps)
+  pub search_turns : (last : Option ℕ) (t : Turn) → (as_turn t ≡ turn_of (length line) (option_of last) (option_of ran.rows)) × (t.steps ≡ ran.steps)
       → Turns pattern line from last t
   search_turns last t is =
       record {
-        same = is.0 ∙ ap (λ (o : math.Option Rows). kept (turn_of (length line) (option_of last) o)) found_is;
+        same = is.0 ∙ ap (turn_of (length line) (option_of last)) found_is;
         counted = is.1 ∙ given.steps_are;
       }

@@ -4,6 +4,7 @@
 mod scans;
 
 ghost use Rattle.machine.specs.Scratch.{Roomy};
+ghost use Rattle.replacer.specs.Given.{Low};
 ghost use Rattle.replacer.specs.Promise.{Replaces};
 
 use machine::{LargeScratch, Machine, Scratch, SmallScratch};
@@ -23,7 +24,8 @@ pub struct Replaced {
 impl Scan<'_, '_, '_> {
     // Refusal 13, else the output in the buffer, in lent scratch: the scan is measured before the first byte is written.
     fn replace_in(self, scratch: &mut Scratch, buffer: &mut [u8]) -> Result<Replaced, Refused>
-        requires { Roomy self.machine.places self.machine.depth scratch.old }
+        requires roomy { Roomy self.machine.places self.machine.depth scratch.old }
+        requires low { Low self.machine.pattern.now self.sources.template.now }
         ensures { Replaces self.entry.machine.pattern.now self.entry.sources.template.now self.entry.sources.line.now buffer.old result buffer.new }
     {
         let mut length = Length { bytes: 0 };
@@ -45,6 +47,7 @@ impl Scan<'_, '_, '_> {
 
     // The same in scratch as large as the machine asks for.
     fn replace(self, buffer: &mut [u8]) -> Result<Replaced, Refused>
+        requires { Low self.machine.pattern.now self.sources.template.now }
         ensures { Replaces self.entry.machine.pattern.now self.entry.sources.template.now self.entry.sources.line.now buffer.old result buffer.new }
     {
         if machine::is_small(self.machine.places, self.machine.depth) {

@@ -1,26 +1,19 @@
 // The scan over the line, search by search.
 ghost use Rattle.std.specs.Prelude.{◌≡◌, Bool};
 ghost use Rattle.machine.specs.Scratch.{Roomy, Runnable, Lasts};
-ghost use Rattle.std.proofs.Props.{props};
-ghost use Rattle.paper.specs.Refusal.{accepted};
-ghost use Rattle.paper.specs.Pattern.{groups};
-ghost use Rattle.paper.specs.Template.{within};
-ghost use Rattle.turns.specs.Accepted.{pieces_of};
-ghost use Rattle.replacer.specs.Given.{tree_of, whole_of};
+ghost use Rattle.replacer.specs.Given.{whole_of};
 ghost use Rattle.replacer.specs.Scans.{Turns, Counts};
 
 use machine::{Machine, Scratch};
 use turns::output::Output;
 use turns::{Sources, Turn};
 
-// What is scanned, by what, and what is put in: a machine built for searching, and a line and a template whose references are within the
-// pattern's groups.
+// What is scanned, by what, and what is put in: a machine built for searching, and a line and a template.
 #[derive(Clone, Copy)]
 pub struct Scan<'m, 't, 'l> {
     pub machine: Machine<'m>,
     pub sources: Sources<'t, 'l>,
     pub ghost built: { machine.searches ≡ Bool.true },
-    pub ghost low: { within (pieces_of sources.template.now) (groups (tree_of machine.pattern.now)) ≡ accepted tt } by { Prim.hlevel props },
 }
 
 // What a scan gives beside its output: the replacements and the sum of all searches' steps.
@@ -56,7 +49,7 @@ impl Scan<'_, '_, '_> {
         while let Some(from) = goes {
             let turn = self.turn(scratch, from, last);
             turn.write(self.sources, from, output);
-            replacements += usize::from(turn.put.is_some());
+            replacements += usize::from(turn.put);
             steps += u64::from(turn.steps);
             goes = turn.goes;
             last = turn.last;

@@ -9,7 +9,10 @@ use lib.ListN.{length}
 use Rattle.paper.specs.Refusal.{Checked, refused, accepted}
 use Rattle.paper.specs.Rows.{no_rows}
 use Rattle.paper.specs.PieceCalls.{Span, piece_call, part_call}
-use Rattle.template.specs.Answer.{IsPart}
+use Rattle.std.specs.Prelude.{Err}
+use Rattle.pattern.specs.declared.Refused.{Refused}
+use Rattle.pattern.specs.Refusals.{number_of}
+use Rattle.template.specs.Answer.{answer_of, IsPart}
 
 abbrev is_accepted : Checked Span → Bool
 is_accepted (refused number place) = false
@@ -19,8 +22,12 @@ is_accepted (accepted span) = true
 abbrev dash : List ℕ
 dash = 1 ∷ 0 ∷ 32 ∷ 0 ∷ 45 ∷ []
 
-pub refuses_all : (number place : ℕ) → refused number place ≡ piece_call dash [] no_rows 0 → ⊥
-refuses_all number place p = true≢false (sym (ap is_accepted p))
+-- the definition refuses nothing here
+pub refuses_none : (number place : ℕ) → refused number place ≡ piece_call dash [] no_rows 0 → ⊥
+refuses_none number place p = true≢false (sym (ap is_accepted p))
+
+pub refuses_all : (r : Refused) → answer_of (Err r) ≡ piece_call dash [] no_rows 0 → ⊥
+refuses_all r p = refuses_none (number_of r.refusal) r.place p
 
 pub always_empty : (template line part : Bor (List ℕ)) → template.now ≡ dash → IsPart (piece_call dash [] no_rows 0) template line part → part.now ≡ [] → ⊥
 always_empty template line part is p empty =

@@ -19,7 +19,7 @@ use Rattle.template.specs.declared.Record.{Record}
 use Rattle.std.proofs.Common.{None, Some}
 use Rattle.std.specs.Iterator.{Yields, SkipsThenYields}
 use Rattle.template.specs.declared.Records.{Records}
-use Rattle.template.specs.Record.{From, piece_of}
+use Rattle.template.specs.Record.{From, piece_of, IsNumbered}
 use Rattle.template.specs.Records.{Start, Goes}
 use Rattle.template.specs.Answer.{Inside}
 use Rattle.template.proofs.Reading.{never, piece_ends, from_template_law, walk_from, walk_none}
@@ -35,7 +35,7 @@ span_at_nth zero (piece ∷ pieces) first rest is size table =
     ap (λ (p : Piece). span_of p size table) same
 span_at_nth (suc n) (piece ∷ pieces) first rest is size table = span_at_nth n pieces first rest is size table
 
--- the walk to a number: past so many records, those that are left stand from where it is on
+-- the walk to a number by `nth`: past so many records, those that are left stand from where it is on
 reach : (bs : List ℕ) (xs : List (ℕ × Record)) (s t : Records) (pieces : List Piece) → s.template.now ≡ bs → From bs s.at pieces → Yields Goes s xs t
     → (t.template.now ≡ bs) × From bs t.at (drop (length xs) pieces) × (length xs ≤ length pieces)
 reach bs [] s t pieces same from is = subst (λ (u : Records). (u.template.now ≡ bs) × From bs u.at pieces × (0 ≤ length pieces)) is (same, from, omega arith)
@@ -85,6 +85,11 @@ module _ (template line table : List ℕ) (number : ℕ) where
 
       pub call_16 : length pieces ≤ number → refused no_such_piece 0 ≡ piece_call template line table number
       call_16 past = sym (span_at_past pieces number past (length line) table) ∙ call_rest
+
+      -- the record of the number puts in what the piece of this number does
+      pub call_given : (found : Record) (given : IsNumbered pieces number (Some found))
+          → span_of (piece_of given.0 found) (length line) table ≡ piece_call template line table number
+      call_given found (at, rest, split, fits) = sym (span_at_nth number pieces (piece_of at found) rest split (length line) table) ∙ call_rest
 
 -- ---- every part that is answered lies in its source
 

@@ -11,12 +11,12 @@ use borrow.Author.Tests.{ltb-true, ltb-false, leb-true}
 use Rattle.paper.specs.Limits.{template_bytes}
 use Rattle.paper.specs.Refusal.{Checked, refused, accepted, ◌>>=◌, ◌>>◌, holds, template_wrong}
 use Rattle.paper.specs.Check.{body_end, kind_at}
-use Rattle.paper.specs.Template.{Piece, piece_of_kind, piece_at, pieces_from, template_of}
+use Rattle.paper.specs.Template.{Piece, piece_of_kind, piece_at, pieces_from, template_of, within}
 use Rattle.std.proofs.Common.{None, Some}
 use Rattle.template.specs.declared.Record.{Record}
 use Rattle.template.specs.declared.Records.{Records}
 use Rattle.template.specs.Records.{Goes}
-use Rattle.template.specs.Record.{Shows, From, piece_of, record_count}
+use Rattle.template.specs.Record.{Shows, From, piece_of, record_count, references_call}
 
 -- nothing is refused and accepted
 pub never : {A B : Type 0} {number place : ℕ} {a : A} → refused number place ≡ accepted a → B
@@ -99,6 +99,13 @@ module _ (bs : List ℕ) (s t : Records) (same : s.template.now ≡ bs) where
 
 -- ---- what the number of records tells
 
+pub counted_wrong : (bs : List ℕ) (place : ℕ) → refused template_wrong place ≡ record_count bs → template_of bs ≡ refused template_wrong place
+counted_wrong bs place is = look (template_of bs) is
+  where
+    look : (found : Checked (List Piece)) → refused template_wrong place ≡ (found >>= λ pieces. accepted (length pieces)) → found ≡ refused template_wrong place
+    look (refused number at) is = cc
+    look (accepted pieces) is = cc
+
 pub counted_right : (bs : List ℕ) (count : ℕ) → accepted count ≡ record_count bs
     → (pieces : List Piece) × (template_of bs ≡ accepted pieces) × (count ≡ length pieces)
 counted_right bs count is = look (template_of bs) refl is
@@ -107,3 +114,15 @@ counted_right bs count is = look (template_of bs) refl is
         → (pieces : List Piece) × (template_of bs ≡ accepted pieces) × (count ≡ length pieces)
     look (refused number at) found is = never (sym is)
     look (accepted pieces) found is = (pieces, found, cc)
+
+-- ---- what the references tell
+
+-- 9 or 10 ends a call, whatever would come next
+pub references_refused : {A : Type 0} (bs : List ℕ) (groups number place : ℕ) → refused number place ≡ references_call bs groups
+    → (next : List Piece → Checked A) → (template_of bs >>= λ pieces. within pieces groups >> next pieces) ≡ refused number place
+references_refused bs groups number place is next = look (template_of bs) is
+  where
+    look : (found : Checked (List Piece)) → refused number place ≡ (found >>= λ pieces. within pieces groups)
+        → (found >>= λ pieces. within pieces groups >> next pieces) ≡ refused number place
+    look (refused n p) is = cc
+    look (accepted pieces) is = rw (sym is)

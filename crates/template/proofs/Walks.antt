@@ -4,18 +4,18 @@ use Prim.Native.Nat.{ℕ, zero, suc, ◌+◌, ◌-◌, ◌≤◌, ◌<◌}
 use native.Mathlib.Omega.{arith}
 use mathlib.Core.Path.{◌≡◌, refl, sym, ◌∙◌, ap, subst}
 use mathlib.Core.List.{List, [], ◌∷◌}
-use lib.ListN.{length}
+use lib.ListN.{length, drop}
 use borrow.Author.Tests.{lt-ltb, le-ltb, le-leb, lt-leb}
-use Rattle.std.proofs.Common.{None, Some}
+use Rattle.std.proofs.Common.{Option, None, Some, Ok}
 use Rattle.paper.specs.Limits.{template_bytes}
 use Rattle.paper.specs.Refusal.{Checked, refused, accepted, ◌>>=◌, template_wrong, reference_too_high}
 use Rattle.paper.specs.Check.{body_end}
 use Rattle.paper.specs.Template.{Piece, reference, piece_at, pieces_from, template_of, within}
 use Rattle.template.specs.declared.Record.{Record}
 use Rattle.template.specs.declared.Records.{Records}
-use Rattle.template.specs.Record.{Shows, From, piece_of, next_of, record_count}
+use Rattle.template.specs.Record.{Shows, From, Fits, piece_of, next_of, record_count, IsNumbered, Walked}
 use Rattle.template.specs.Records.{Start, Goes}
-use Rattle.template.proofs.Reading.{from_template_law, walk_from, walk_none}
+use Rattle.template.proofs.Reading.{never, from_template_law, walk_from, walk_none, counted_right}
 
 -- ---- counting
 
@@ -95,6 +95,85 @@ module _ (bs : List ℕ) (s t : Records) (count : ℕ) (same : s.template.now �
 
   pub count_ends : Goes s None t → length bs ≤ template_bytes → length bs ≤ t.at → accepted count ≡ record_count bs
   count_ends goes short past = count_end bs s.at count kept short (omega (arith, goes.1))
+
+-- ---- the record of a number
+
+-- of so many records passed: that of the number, once it is among them
+abbrev pub Kept : List Piece → ℕ → ℕ → Option Record → Type 0
+Kept pieces number count None = count ≤ number
+Kept pieces number count (Some found) = IsNumbered pieces number (Some found)
+
+-- as many records as were counted are passed, those left stand from where the walk is on, and that of the number is kept
+pub record Numbering (bs : List ℕ) (number : ℕ) (s : Records) (count : ℕ) (found : Option Record) : Type 0 where
+  pub bytes : s.template.now ≡ bs
+  pub counted : Counting bs s.at count
+  pub left : (pieces : List Piece) → template_of bs ≡ accepted pieces → From bs s.at (drop count pieces) × Kept pieces number count found
+
+-- past one more, what was left but for its first
+drop_one_more : (count : ℕ) (pieces : List Piece) (first : Piece) (rest : List Piece) → drop count pieces ≡ first ∷ rest → drop (suc count) pieces ≡ rest
+drop_one_more zero [] first rest is = cc
+drop_one_more (suc count) [] first rest is = cc
+drop_one_more zero (piece ∷ pieces) first rest is = cc
+drop_one_more (suc count) (piece ∷ pieces) first rest is = drop_one_more count pieces first rest is
+
+-- the number of records is refused only where the template is, and alike
+wrong_of_count : (number place : ℕ) (found : Checked (List Piece)) → refused number place ≡ (found >>= λ pieces. accepted (length pieces)) → found ≡ refused number place
+wrong_of_count number place (refused n p) is = cc
+wrong_of_count number place (accepted pieces) is = never is
+
+module _ (bs : List ℕ) (number : ℕ) (s : Records) where
+  pub number_start : Start bs s → Numbering bs number s 0 None
+  number_start starts = record {
+    bytes = starts.0;
+    counted =
+        let all : length bs ≡ length bs - 0 = omega arith in
+        rw starts.1 (record { inside = omega arith; few = omega arith; same = ap (λ (n : ℕ). counts 0 (pieces_from n bs 0)) all });
+    left = λ pieces is. (subst (λ (n : ℕ). From bs n pieces) (sym starts.1) (from_template_law bs pieces is), omega arith);
+  }
+
+  module _ (t : Records) (count : ℕ) (kept : Option Record) (walk : Numbering bs number s count kept) where
+    -- one record more is passed, and what is kept of those passed is right
+    pass : (at : ℕ) (found : Record) → Goes s (Some (at, found)) t → (next : Option Record)
+        → ((pieces rest : List Piece) → Kept pieces number count kept → drop count pieces ≡ piece_of at found ∷ rest → Kept pieces number (count + 1) next)
+        → Numbering bs number t (count + 1) next
+    pass at found goes next keeps =
+        let (bytes, counted) = count_step bs s t count walk.bytes walk.counted at found goes in
+        record {
+          bytes = bytes;
+          counted = counted;
+          left = λ pieces is.
+              let (from, held) = walk.left pieces is in
+              let (rest, split, behind) = walk_from bs s t walk.bytes (drop count pieces) at found from goes in
+              let one_more : count + 1 ≡ suc count = omega arith in
+              let others : rest ≡ drop (count + 1) pieces = sym (ap (λ (n : ℕ). drop n pieces) one_more ∙ drop_one_more count pieces (piece_of at found) rest split) in
+              (subst (From bs t.at) others behind, keeps pieces rest held split);
+        }
+
+    -- the record of the number is kept
+    pub number_kept : (at : ℕ) (found : Record) → Goes s (Some (at, found)) t → count ≡ number → Numbering bs number t (count + 1) (Some found)
+    number_kept at found goes here =
+        let fits = subst (λ (n : ℕ). Fits n found) (sym goes.2) goes.3.1 in
+        pass at found goes (Some found) (λ pieces rest held split. (at, rest, ap (λ (n : ℕ). drop n pieces) (sym here) ∙ split, fits))
+
+    -- any other is passed
+    pub number_passed : (at : ℕ) (found : Record) → Goes s (Some (at, found)) t → (count ≡ number → ⊥) → Numbering bs number t (count + 1) kept
+    number_passed at found goes other = pass at found goes kept (λ pieces rest held split. still kept pieces held)
+      where
+        still : (kept : Option Record) (pieces : List Piece) → Kept pieces number count kept → Kept pieces number (count + 1) kept
+        still None pieces held = omega (arith, held, other)
+        still (Some found) pieces held = held
+
+    pub number_stops : Goes s None t → length bs ≤ template_bytes → t.at < length bs → template_of bs ≡ refused template_wrong t.at
+    number_stops goes short before = wrong_of_count template_wrong t.at (template_of bs) (count_stops bs s t count walk.bytes walk.counted goes short before)
+
+    pub number_ends : Goes s None t → length bs ≤ template_bytes → length bs ≤ t.at → Walked bs number (Ok (count, kept))
+    number_ends goes short past =
+        let (pieces, is, all) = counted_right bs count (count_ends bs s t count walk.bytes walk.counted goes short past) in
+        (pieces, is, all, whole kept pieces all (walk.left pieces is).1)
+      where
+        whole : (kept : Option Record) (pieces : List Piece) → count ≡ length pieces → Kept pieces number count kept → IsNumbered pieces number kept
+        whole None pieces all held = omega (arith, all, held)
+        whole (Some found) pieces all held = held
 
 -- ---- seeking
 

@@ -1,11 +1,11 @@
 -- What this crate's inner functions answer, in the words of `paper`: one record, the number of records, the references.
-use Rattle.std.specs.Prelude.{ℕ, ◌≤◌, ◌<◌, ◌≡◌, List, [], ◌∷◌, length, Option, Some, None, Result}
+use Rattle.std.specs.Prelude.{ℕ, ◌≤◌, ◌<◌, ◌≡◌, List, [], ◌∷◌, length, drop, Option, Some, None, Result, Ok, Err}
 use Rattle.paper.specs.Limits.{pattern_groups}
 use Rattle.paper.specs.Refusal.{Checked, refused, accepted, ◌>>=◌, template_wrong}
 use Rattle.paper.specs.Check.{body_end}
 use Rattle.paper.specs.Template.{Piece, literal, reference, piece_at, template_of, within}
 use Rattle.pattern.specs.declared.Refused.{Refused}
-use Rattle.pattern.specs.Refusals.{checked_of}
+use Rattle.pattern.specs.Refusals.{number_of, checked_of}
 use Rattle.template.specs.declared.Record.{Record}
 
 -- where the next record stands
@@ -40,6 +40,17 @@ record_count bs = template_of bs >>= λ pieces. accepted (length pieces)
 
 abbrev pub count_of : Result ℕ Refused → Checked ℕ
 count_of r = checked_of (λ count. count) r
+
+-- the record of a number is the piece of this number, and there is one where there is such a piece
+abbrev pub IsNumbered : List Piece → ℕ → Option Record → Type 0
+IsNumbered pieces number None = length pieces ≤ number
+IsNumbered pieces number (Some found) = (at : ℕ) × (rest : List Piece) × (drop number pieces ≡ piece_of at found ∷ rest) × Fits at found
+
+-- 9, or how many records there are, and the record of a number
+abbrev pub Walked : List ℕ → ℕ → Result (ℕ × Option Record) Refused → Type 0
+Walked bs number (Err r) = template_of bs ≡ refused (number_of r.refusal) r.place
+Walked bs number (Ok (count, found)) =
+    (pieces : List Piece) × (template_of bs ≡ accepted pieces) × (count ≡ length pieces) × IsNumbered pieces number found
 
 -- 9, then 10
 abbrev pub references_call : List ℕ → ℕ → Checked (Unit {0})

@@ -8,7 +8,7 @@ ghost use Rattle.paper.specs.Rows.{row_start, row_end};
 ghost use Rattle.paper.specs.Template.{template_of, within};
 ghost use Rattle.paper.specs.Template as paper;
 ghost use Rattle.paper.specs.PieceCalls.{row_span, piece_call};
-ghost use Rattle.template.specs.Record.{Shows, next_of, count_of, record_count, references_of, references_call, Lawful};
+ghost use Rattle.template.specs.Record.{Shows, next_of, count_of, record_count, references_of, references_call, Walked, Lawful};
 ghost use Rattle.template.specs.Answer.{span_of, answer_of, Inside, IsPart};
 
 use pattern::{Pattern, Refusal, Refused, Spans, Template};
@@ -127,9 +127,9 @@ impl<'a> Iterator for Records<'a> {
     }
 }
 
-// Refusal 9, or the number of records: the walk over all of them.
-pub fn check_template(template: &[u8]) -> Result<usize, Refused>
-    ensures { count_of result ≡ record_count template.now }
+// Refusal 9, or the number of records and the record of a number, if there is one: one walk over all of them.
+fn numbered(template: &[u8], number: usize) -> Result<(usize, Option<Record>), Refused>
+    ensures { Walked template.now number result }
 {
     if Template::BYTES < template.len() {
         return Err(Refusal::TemplateWrong.at(0));
@@ -137,12 +137,25 @@ pub fn check_template(template: &[u8]) -> Result<usize, Refused>
     let mut records = Records::new(template);
     // the library's `count` does not say where it leaves the walk, which is the answer
     let mut count = 0;
-    while let Some(_) = records.next() {
+    let mut found = None;
+    while let Some((_, record)) = records.next() {
+        if count == number {
+            found = Some(record);
+        }
         count += 1;
     }
     if records.at < template.len() {
         return Err(Refusal::TemplateWrong.at(records.at));
     }
+    Ok((count, found))
+}
+
+// Refusal 9, or the number of records.
+pub fn check_template(template: &[u8]) -> Result<usize, Refused>
+    ensures { count_of result ≡ record_count template.now }
+{
+    // no template has a record of so high a number
+    let (count, _) = numbered(template, Template::BYTES)?;
     Ok(count)
 }
 
@@ -191,12 +204,13 @@ fn row_part(size: usize, table: &[u16], row: usize) -> Result<Span, Refused>
 pub fn piece(template: &[u8], line: &[u8], table: &[u16], number: usize) -> Result<Span, Refused>
     ensures { answer_of result ≡ piece_call template.now line.now table.now number }
 {
-    check_template(template)?;
+    // 9 comes first, and is of the whole template: the record is kept as the one walk passes it
+    let (_, record) = numbered(template, number)?;
     pattern::lent(line, table)?;
-    match Records::new(template).nth(number) {
+    match record {
         None => Err(Refusal::NoSuchPiece.at(0)),
-        Some((_, Record::Literal { start, end })) => Ok(Span::new(Source::Template, start, end)),
-        Some((_, Record::Reference { row, .. })) => row_part(line.len(), table, row),
+        Some(Record::Literal { start, end }) => Ok(Span::new(Source::Template, start, end)),
+        Some(Record::Reference { row, .. }) => row_part(line.len(), table, row),
     }
 }
 

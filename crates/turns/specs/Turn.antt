@@ -1,5 +1,5 @@
 -- A turn of the scan as the code holds it, read as the definition's.
-use Rattle.std.specs.Prelude.{ℕ, ◌≤◌, ◌≡◌, Option, Some, None, cond}
+use Rattle.std.specs.Prelude.{ℕ, ◌≤◌, ◌≡◌, Option, Some, None}
 use Rattle.std.specs.Option.{is_some, unwrap_or}
 use Rattle.std.proofs.Math.Option as math
 use Rattle.paper.specs.Limits.{line_bytes}
@@ -17,18 +17,15 @@ pub record Finds (size : ℕ) (found : Option Rows) : Type 0 where
   pub short : size ≤ line_bytes
   pub inside : (rows : Rows) → found ≡ Some rows → row_end 0 rows ≤ size
 
+-- where the scan ends, it stands where the turn does
 abbrev pub as_turn : Turn → paper.Turn
 as_turn t =
     record {
       start = t.start;
-      put = is_some t.put;
-      rows = unwrap_or t.put no_rows;
+      put = t.put;
+      rows = unwrap_or t.found no_rows;
       upto = t.upto;
       goes = is_some t.goes;
-      next = unwrap_or t.goes 0;
+      next = unwrap_or t.goes t.start;
       last = option_of t.last;
     }
-
--- what the code keeps of a turn: its rows only where the template is put in, and where the scan goes on only where it does
-abbrev pub kept : paper.Turn → paper.Turn
-kept t = record t { rows = cond t.put t.rows no_rows; next = cond t.goes t.next 0 }

@@ -8,19 +8,20 @@ ghost use Rattle.std.specs.Prelude.{◌≡◌, Some, not, ◌≤◌, length};
 ghost use Rattle.paper.specs.Limits.{line_bytes};
 ghost use Rattle.paper.specs.Replace.{suppressed};
 ghost use Rattle.paper.specs.ScanTurn.{turn_of, turn_bytes, TurnFits};
-ghost use Rattle.turns.specs.Turn.{option_of, Finds, as_turn, kept};
+ghost use Rattle.turns.specs.Turn.{option_of, Finds, as_turn};
 ghost use Rattle.turns.specs.Accepted.{pieces_of, Right};
 
 use output::Output;
 use pattern::Spans;
 pub use putting::Sources;
 
-// Up to where the line is copied first, for which rows the template is put in, up to where the line is copied then, from where the scan goes
-// on, where the last non-empty match ended, and the search's steps.
+// Up to where the line is copied first, the rows of the match that was found, whether the template is put in for it, up to where the line is
+// copied then, from where the scan goes on, where the last non-empty match ended, and the search's steps. A match that is suppressed has its rows too.
 #[derive(Clone, Copy)]
 pub struct Turn {
     pub start: usize,
-    pub put: Option<[u16; Spans::NUMBERS]>,
+    pub found: Option<[u16; Spans::NUMBERS]>,
+    pub put: bool,
     pub upto: usize,
     pub goes: Option<usize>,
     pub last: Option<usize>,
@@ -37,11 +38,11 @@ fn is_replaced(start: usize, end: usize, last: Option<usize>) -> bool
 // The turn of a match, by its rows.
 fn match_turn(size: usize, last: Option<usize>, rows: [u16; Spans::NUMBERS], steps: u32) -> Turn
     requires { Finds size (Some rows) }
-    ensures { (as_turn result ≡ kept (turn_of size (option_of last) (option_of (Some rows)))) × (result.steps ≡ steps) }
+    ensures { (as_turn result ≡ turn_of size (option_of last) (option_of (Some rows))) × (result.steps ≡ steps) }
 {
     let start = usize::from(rows[0]);
     let end = usize::from(rows[1]);
-    let put = is_replaced(start, end, last).then_some(rows);
+    let put = is_replaced(start, end, last);
     let (upto, goes, last) = if start < end {
         (start, Some(end), Some(end))
     } else if start < size {
@@ -51,6 +52,7 @@ fn match_turn(size: usize, last: Option<usize>, rows: [u16; Spans::NUMBERS], ste
     };
     Turn {
         start,
+        found: Some(rows),
         put,
         upto,
         goes,
@@ -67,13 +69,14 @@ pub fn turn_of(
     steps: u32,
 ) -> Turn
     requires { Finds size found }
-    ensures { (as_turn result ≡ kept (turn_of size (option_of last) (option_of found))) × (result.steps ≡ steps) }
+    ensures { (as_turn result ≡ turn_of size (option_of last) (option_of found)) × (result.steps ≡ steps) }
 {
     match found {
         Some(rows) => match_turn(size, last, rows, steps),
         None => Turn {
             start: size,
-            put: None,
+            found: None,
+            put: false,
             upto: size,
             goes: None,
             last,
@@ -89,8 +92,8 @@ impl Turn {
         ensures { O.appends output.old (turn_bytes sources.entry.template.now sources.entry.line.now (pieces_of sources.entry.template.now) from (as_turn self)) output.new }
     {
         output.append(&sources.line[from..self.start]);
-        if let Some(rows) = self.put {
-            sources.put(rows, output);
+        if self.put {
+            sources.put(self.found.unwrap_or(Spans::absent_table()), output);
         }
         output.append(&sources.line[self.start..self.upto]);
     }

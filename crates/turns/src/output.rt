@@ -77,9 +77,12 @@ impl<'a> Output for Buffer<'a> {
 
     ghost room_second = { write_room_second };
 
+    // By a loop: for copy_from_slice the archive would ask C for memmove, and it asks for memset alone.
     fn append(&mut self, bytes: &[u8]) {
-        let end = self.end + bytes.len();
-        self.bytes[self.end..end].copy_from_slice(bytes);
-        self.end = end;
+        let at = self.end;
+        for i in 0..bytes.len() {
+            self.bytes[at + i] = bytes[i];
+        }
+        self.end = at + bytes.len();
     }
 }

@@ -8,7 +8,7 @@ loop-i-init c = record {
       c.args.state.now.seen.now c.args.state.now.carried.taken.now c.args.threads.now c.args.number c.args.state.now.carried.list.now c.args.pending.now
       c.args.state.now.steps c.args.state.now.carried.count c.requires.none_carried c.requires.stepping;
   room = c.requires.stepping.pending_long;
-  same_tables = (refl, refl, (refl, refl));
+  same_tables = (refl, refl, ((refl, refl), (refl, refl)));
 }
 
 pub visit-requires : goal.visit-requires
@@ -34,7 +34,7 @@ loop-i-preserved c =
           state.seen.now state.carried.taken.now state.carried.list.now state.carried.count state.steps false
           same.1 c.if-visit.ensures.visits refl;
       room = omega (arith, c.loop-i.invariant.room, c.visit.auto.pending);
-      same_tables = (same.0 ∙ before.0, same.1 ∙ before.1, (same.2.0 ∙ before.2.0, same.2.1 ∙ before.2.1));
+      same_tables = (same.0 ∙ before.0, same.1 ∙ before.1, ((same.2.0.0 ∙ before.2.0.0, same.2.0.1 ∙ before.2.0.1), (same.2.1.0 ∙ before.2.1.0, same.2.1.1 ∙ before.2.1.1)));
     }
 
 pub returns-clause-steps : goal.returns-clause-steps

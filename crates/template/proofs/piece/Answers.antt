@@ -1,35 +1,36 @@
--- `piece` meets its contract: its tests stand in the order of `piece_call`'s, and the walk to the number gives its piece or none.
-use Rattle.std.proofs.Common.{length, sym, ap, ◌∙◌}
-use Rattle.paper.specs.PieceCalls.{span_of}
+-- `piece` meets its contract: its tests stand in the order of `piece_call`'s, and the walk gives the record of the number or none.
+use Rattle.std.proofs.Common.{Some, ◌∙◌, ap, subst, arith}
 use Rattle.template.specs.declared.Record.{Record}
-use Rattle.template.specs.Record.{piece_of}
-use Rattle.template.proofs.Reading.{counted_right}
-use Rattle.template.proofs.Pieces.{call_16, call_rest, nth_none, nth_given}
+use Rattle.template.specs.Record.{IsNumbered}
+use Rattle.template.proofs.Pieces.{call_16, call_given}
 use Rattle.template.proofs.piece.Goals as goal
+
+pub row_part-requires : goal.row_part-requires
+row_part-requires c =
+    let (pieces, is, all, given) = c.in_ok-record.ensures in
+    let some = c.in-Some-Reference in
+    let here = subst (IsNumbered pieces c.args.number) (some.is ∙ ap Some (rw some.is at some.field-0-is)) given in
+    (here.3, grind (arith, c.in_ok-lent.ensures))
 
 pub returns-in-None : goal.returns-in-None
 returns-in-None c =
-    let (pieces, is, all) = counted_right c.args.template.now c.in_ok-check_template.field-0 c.in_ok-check_template.ensures in
-    let past = nth_none c.args.template.now c.new.result c.nth.new.self c.args.number c.new.ensures pieces is c.in-None.ensures.ran in
+    let (pieces, is, all, given) = c.in_ok-record.ensures in
+    let past = subst (IsNumbered pieces c.args.number) c.in-None.is given in
     rw c.at.ensures
     (call_16 c.args.template.now c.args.line.now c.args.table.now c.args.number pieces is c.in_ok-lent.ensures past)
 
-pub returns-in-Some-default-Literal : goal.returns-in-Some-default-Literal
-returns-in-Some-default-Literal c =
-    let (pieces, is, all) = counted_right c.args.template.now c.in_ok-check_template.field-0 c.in_ok-check_template.ensures in
-    let some = c.in-Some-default-Literal in
-    rw c.new-in-Some-default-Literal.ensures
-    (ap (λ (r : Record). span_of (piece_of some.field-0-0 r) (length c.args.line.now) c.args.table.now) (sym some.field-0-1-is)
-    ∙ nth_given c.args.template.now c.new.result c.nth.new.self c.args.number c.new.ensures pieces is some.field-0-0 some.field-0-1 some.ensures.ran
-    (length c.args.line.now) c.args.table.now
-    ∙ call_rest c.args.template.now c.args.line.now c.args.table.now c.args.number pieces is c.in_ok-lent.ensures)
+pub returns-in-Some-Literal : goal.returns-in-Some-Literal
+returns-in-Some-Literal c =
+    let (pieces, is, all, given) = c.in_ok-record.ensures in
+    let some = c.in-Some-Literal in
+    let here = subst (IsNumbered pieces c.args.number) (some.is ∙ ap Some (rw some.is at some.field-0-is)) given in
+    rw c.new.ensures
+    (call_given c.args.template.now c.args.line.now c.args.table.now c.args.number pieces is c.in_ok-lent.ensures (Record.Literal some.start some.end) here)
 
-pub returns-in-Some-default-Reference : goal.returns-in-Some-default-Reference
-returns-in-Some-default-Reference c =
-    let (pieces, is, all) = counted_right c.args.template.now c.in_ok-check_template.field-0 c.in_ok-check_template.ensures in
-    let some = c.in-Some-default-Reference in
+pub returns-in-Some-Reference : goal.returns-in-Some-Reference
+returns-in-Some-Reference c =
+    let (pieces, is, all, given) = c.in_ok-record.ensures in
+    let some = c.in-Some-Reference in
+    let here = subst (IsNumbered pieces c.args.number) (some.is ∙ ap Some (rw some.is at some.field-0-is)) given in
     c.row_part.ensures
-    ∙ ap (λ (r : Record). span_of (piece_of some.field-0-0 r) (length c.args.line.now) c.args.table.now) (sym some.field-0-1-is)
-    ∙ nth_given c.args.template.now c.new.result c.nth.new.self c.args.number c.new.ensures pieces is some.field-0-0 some.field-0-1 some.ensures.ran
-    (length c.args.line.now) c.args.table.now
-    ∙ call_rest c.args.template.now c.args.line.now c.args.table.now c.args.number pieces is c.in_ok-lent.ensures
+    ∙ call_given c.args.template.now c.args.line.now c.args.table.now c.args.number pieces is c.in_ok-lent.ensures (Record.Reference some.row some.field-0-1) here

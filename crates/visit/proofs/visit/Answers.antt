@@ -2,6 +2,7 @@ use Rattle.std.proofs.Common.{◌≡◌, ◌≤◌, ◌+◌, false, length, ◌�
 use Rattle.visit.proofs.Loop.{Turn, turn_first, turn_floor, turn_last, turn_resume}
 use Rattle.visit.proofs.Loop.{turn_seen, fewer_marked, turn_countable, less_new, lead_slots, turn_lead, turn_end, turn_settle, turn_won, fork_asked, turn_fork}
 use Rattle.threads.specs.Threads.{lacking}
+use Rattle.threads.specs.Memory.{SameMemory}
 use Rattle.visit.proofs.visit.Goals as goal
 use Rattle.visit.proofs.visit.Goals.{Joined-mark, then-mark+else-here-eq-FORK+then-here-lt-SET+in_default, then-mark+else-here-eq-FORK+else-here-lt-SET+else-settle, else-mark}
 
@@ -13,8 +14,7 @@ loop-state-init c =
           c.args.state.now.seen.now c.args.state.now.carried.taken.now c.args.state.now.carried.list.now c.args.pending.now
           c.args.start.place c.args.start.rows c.args.state.now.carried.count c.args.state.now.steps long c.requires;
       same_seen = refl;
-      same_taken = refl;
-      same_list = refl;
+      same_memory = ((refl, refl), (refl, refl));
     }
 
 pub overflow_add-state : goal.overflow_add-state
@@ -40,8 +40,7 @@ loop-state-preserved-then-here-eq-FORK c =
           here.result.kind here.result.next here.result.a here.result.n here.ensures c.if-here-eq-FORK.true
           c.push.new.self.numbers.now c.push.new.self.count c.push.ensures.pushed;
       same_seen = c.loop-state.invariant.same_seen;
-      same_taken = c.loop-state.invariant.same_taken;
-      same_list = c.loop-state.invariant.same_list;
+      same_memory = c.loop-state.invariant.same_memory;
     }
 
 -- ---- a place that leads on at once
@@ -66,8 +65,7 @@ loop-state-preserved-in-Some c =
           here.result.kind here.result.next here.result.a here.result.n here.ensures
           (omega (arith, c.if-here-eq-FORK.false)) c.if-here-lt-SET.true c.in-Some.level c.lead-led.new.rows c.in-Some.ensures;
       same_seen = c.loop-state.invariant.same_seen;
-      same_taken = c.loop-state.invariant.same_taken;
-      same_list = c.loop-state.invariant.same_list;
+      same_memory = c.loop-state.invariant.same_memory;
     }
 
 -- ---- a thread wins
@@ -104,16 +102,16 @@ over c =
 -- in the tables of the loop's start
 kept : (c : Joined-mark)
     → (c.if-mark.state.seen.ghost_name ≡ c.args.state.now.seen.ghost_name)
-    × (c.if-mark.state.carried.taken.ghost_name ≡ c.args.state.now.carried.taken.ghost_name)
-    × (c.if-mark.state.carried.list.ghost_name ≡ c.args.state.now.carried.list.ghost_name)
+    × SameMemory c.args.state.now.carried c.if-mark.state.carried
 kept c =
     let i = c.loop-state.invariant in
     elim c.if-mark.branch [
-      | then-mark+else-here-eq-FORK+then-here-lt-SET+in_default w ↦ rw w.state-is (i.same_seen, i.same_taken, i.same_list)
+      | then-mark+else-here-eq-FORK+then-here-lt-SET+in_default w ↦ rw w.state-is (i.same_seen, i.same_memory)
       | then-mark+else-here-eq-FORK+else-here-lt-SET+else-settle w ↦
+          let was = i.same_memory in
           let same = w.if-settle.ensures.same_memory in
-          rw w.state-is (i.same_seen, same.0 ∙ i.same_taken, same.1 ∙ i.same_list)
-      | else-mark w ↦ rw w.state-is (i.same_seen, i.same_taken, i.same_list)
+          rw w.state-is (i.same_seen, ((same.0.0 ∙ was.0.0, same.0.1 ∙ was.0.1), (same.1.0 ∙ was.1.0, same.1.1 ∙ was.1.1)))
+      | else-mark w ↦ rw w.state-is (i.same_seen, i.same_memory)
     ]
 
 -- with no more pairs to be met
@@ -137,8 +135,7 @@ loop-state-preserved c =
       turn = rw c.in-Some-pop.ensures.same_memory.1 (turn_resume (over o) c.pop.new.self.count popped.0 c.in-Some-pop.branch.place c.in-Some-pop.branch.floor c.in-Some-pop.branch.rows
           popped.1 popped.2 popped.3);
       same_seen = (kept o).0;
-      same_taken = (kept o).1;
-      same_list = (kept o).2;
+      same_memory = (kept o).1;
     }
 
 pub returns-in_default-pop-clause-visits : goal.returns-in_default-pop-clause-visits

@@ -1,5 +1,6 @@
 -- Each turn keeps `Turn`, by one law a way round; the measure counts the entries of `seen` that lack this position's stamp and the branches that wait.
 use Rattle.std.proofs.Common.{◌≡◌, true}
+use Rattle.threads.specs.Memory.{SameMemory}
 use Rattle.visit.proofs.Loop.{Turn, turns}
 use Rattle.visit.proofs.visit.Given as goal
 
@@ -11,8 +12,7 @@ invariant-loop-state l = record {
       l.state.seen.now l.state.carried.taken.now l.state.carried.list.now l.waiting.numbers.now
       l.place l.floor l.rows l.state.carried.count l.state.steps l.waiting.count true;
   same_seen : l.state.seen.ghost_name ≡ l.initial.state.seen.ghost_name;
-  same_taken : l.state.carried.taken.ghost_name ≡ l.initial.state.carried.taken.ghost_name;
-  same_list : l.state.carried.list.ghost_name ≡ l.initial.state.carried.list.ghost_name;
+  same_memory : SameMemory l.initial.state.carried l.state.carried;
 }
 
 abbrev pub decreases-loop-state : goal.decreases-loop-state

@@ -1,5 +1,4 @@
-use mir.Val.{bool_byte}
-use Rattle.std.proofs.Common.{◌∙◌, ap, refl, arith}
+use Rattle.std.proofs.Common.{refl, arith}
 use Rattle.machine.proofs.Only.{ready_as}
 use Rattle.machine.proofs.Running.{lasts_start, lasts_on}
 use Rattle.replacer.proofs.Scanning.{ready_lawful, scan_start, scan_room, scan_more, scan_fits, turns_ahead, turns_fit}
@@ -26,7 +25,7 @@ loop-goes-preserved g c = (
   lasts_on c.loop-goes.invariant.0 c.turn-turn.ensures.lasts,
   scan_more g.O.Output.has_room g.O.Output.appends c.args.self.machine.pattern.now c.args.self.sources.template.now c.args.self.sources.line.now c.args.output.now c.args.self.sources.short
       (rw c.in-Some.is at c.loop-goes.invariant.1) c.turn-turn.ensures.turns g.met.O.Output.appends_both g.met.O.Output.room_second c.write.ensures
-      (c.from-replacements.ensures ∙ ap bool_byte c.is_some.ensures) c.from-steps.ensures,
+      c.from-replacements.ensures c.from-steps.ensures,
 )
 
 pub overflow_add-replacements : goal.overflow_add-replacements
@@ -35,7 +34,7 @@ overflow_add-replacements g c =
       arith,
       scan_fits g.O.Output.has_room g.O.Output.appends c.args.self.machine.pattern.now c.args.self.sources.template.now c.args.self.sources.line.now c.args.output.now c.args.self.sources.short
           (rw c.in-Some.is at c.loop-goes.invariant.1) c.turn-turn.ensures.turns c.args.self.sources.right
-          (ready_lawful (ready_as c.args.self.built c.args.self.machine.ready)) (c.from-replacements.ensures ∙ ap bool_byte c.is_some.ensures) refl,
+          (ready_lawful (ready_as c.args.self.built c.args.self.machine.ready)) c.from-replacements.ensures refl,
     )
 
 pub overflow_add-steps : goal.overflow_add-steps

@@ -21,7 +21,7 @@ returns-then-buffer-length c =
     let measured : c.append_to-scanned.new.output.bytes ≡ 0 + length output = c.append_to-scanned.ensures.written in
     rw c.at.ensures
     (refuses_output given.machine.pattern.now given.sources.template.now given.sources.line.now c.args.buffer.now (ready_accepts (ready_as given.built given.machine.ready))
-    given.sources.right given.low given.sources.short (omega (arith, c.if-buffer-length.true, measured)))
+    given.sources.right c.requires.low given.sources.short (omega (arith, c.if-buffer-length.true, measured)))
 
 -- a buffer that is known by what stands behind another name
 over : {after now whole : List ℕ} → now ≡ whole → after ≡ now → after ≡ whole
@@ -32,6 +32,6 @@ returns c =
     let given = c.args.self in
     let output = (whole_of c.args.self.machine.pattern.now c.args.self.sources.template.now c.args.self.sources.line.now).output in
     let measured : c.append_to-scanned.new.output.bytes ≡ 0 + length output = c.append_to-scanned.ensures.written in
-    replaces c.args.self.machine.pattern.now c.args.self.sources.template.now c.args.self.sources.line.now c.args.buffer.now (ready_accepts (ready_as given.built given.machine.ready)) given.sources.right given.low given.sources.short
+    replaces c.args.self.machine.pattern.now c.args.self.sources.template.now c.args.self.sources.line.now c.args.buffer.now (ready_accepts (ready_as given.built given.machine.ready)) given.sources.right c.requires.low given.sources.short
     (omega (arith, c.if-buffer-length.false, measured)) _ (omega (arith, measured)) c.append_to-scanned.ensures.counts.replaced
     c.append_to-scanned.ensures.counts.stepped _ (over (written_whole c.append_to.ensures.written.0) (search rules))
