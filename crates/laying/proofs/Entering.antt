@@ -7,11 +7,14 @@ use native.Mathlib.Nat.{suc-mul, zero-mul, mul-le-mul_left}
 use native.Mathlib.Omega.{arith}
 use borrow.Author.Tests.{eq-eqb, ne_eqb}
 use lib.Dec.{eqb}
+use lib.ListN.{length}
 use Rattle.paper.specs.Pattern.{Mode}
 use Rattle.paper.specs.Machine.{Core, skip, must, maybe, star, size, pass_fork, begin, begin_optional, ending}
 use Rattle.pattern.specs.Walk.{pass_places}
 use Rattle.pattern.proofs.Counting.{no_pass}
 use Rattle.laying.specs.Laid.{Holds, entry_of, Lays}
+use Rattle.laying.specs.Room.{most_places}
+use Rattle.laying.specs.Single.{Fitting, Head}
 use Rattle.laying.specs.Repeats.{optional_core, pass_core, inner_start}
 
 -- what has no places is entered at what follows it
@@ -156,6 +159,17 @@ star_lays t bs mode first n e base next p ep =
     → Lays t bs e (base + 1 + 1) (base + 1 + 1 + p) → Holds t bs (base + 1 + 1 + p) (ending base) → Lays t bs (star mode first n e) base next)
     (sym ep)
     (λ a b c d. (a, b, c, d))
+
+-- the numbers of a head, the place before so many others, fit
+pub entering_fits : (p base next : ℕ) {t : List ℕ} {kind a n v : ℕ} → base + 1 + p ≤ most_places → next ≤ most_places → Head kind a n
+    → 2040 ≤ length t → v ≡ entry_of p (base + 1) next → Fitting t base v a n
+entering_fits p base next inside follows head room ev =
+    record {
+      room = omega (arith, inside);
+      next_fits = omega (arith, ev, entry_small p (base + 1) next {most = 65535} (omega (arith, inside)) (omega (arith, follows)));
+      a_fits = omega (arith, head.a_small);
+      n_fits = omega (arith, head.n_small);
+    }
 
 -- a run of passes has at least a place a pass
 pub passes_count : (least may p : ℕ) → least + may ≤ pass_places least may p

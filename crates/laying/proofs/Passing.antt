@@ -15,7 +15,7 @@ use Rattle.laying.specs.Single.{Fitting, Put, Forked}
 use Rattle.laying.specs.Copies.{Model, in_place, ahead, Copied}
 use Rattle.laying.specs.Repeats.{pass_core, inner_start, Begun, BegunLaid, Repeating, PassesLaid, PassesLeft}
 use Rattle.laying.proofs.Stores.{plain_holds, holds_kept, lays_kept, lays_behind, kept_none, kept_both}
-use Rattle.laying.proofs.Entering.{entry_some, entry_small, entry_same, passes_some, passes_none, places_must, places_may, inner_must, inner_may, core_must, core_none, core_star, core_maybe, must_lays, maybe_lays, star_lays, end_small}
+use Rattle.laying.proofs.Entering.{entry_some, entry_small, entering_fits, entry_same, passes_some, passes_none, places_must, places_may, inner_must, inner_may, core_must, core_none, core_star, core_maybe, must_lays, maybe_lays, star_lays, end_small}
 use Rattle.laying.proofs.Copying.{copy_lays}
 use Rattle.laying.proofs.Sizes.{pass_size}
 use Rattle.laying.proofs.Single.{head_stands}
@@ -44,13 +44,7 @@ model_apart e bs next ep (ahead first) lo hi k = lays_kept e bs _ next k (omega 
 -- `begun`: its head fits
 pub begin_fits : {model p kind first g base next v : ℕ} {t : List ℕ} → Begun model p kind first g base next → 2040 ≤ length t → v ≡ entry_of p (base + 1) next
     → Fitting t base v first g
-begin_fits {p = p} {base = base} {next = next} m room ev =
-    record {
-      room = omega (arith, m.room);
-      next_fits = omega (arith, ev, entry_small p (base + 1) next {most = 65535} (omega (arith, m.room)) (omega (arith, m.follows)));
-      a_fits = omega (arith, m.head.a_small);
-      n_fits = omega (arith, m.head.n_small);
-    }
+begin_fits {p = p} {base = base} {next = next} m = entering_fits p base next m.room m.follows m.head
 
 -- the head and the copy
 pub begun_laid : {model p kind first g base next v : ℕ} {t t1 t2 : List ℕ} → Begun model p kind first g base next → v ≡ entry_of p (base + 1) next

@@ -14,7 +14,7 @@ use Rattle.pattern.specs.declared.Kind.{Kind}
 use Rattle.laying.specs.Laid.{Holds, Kept, entry_of, Lays}
 use Rattle.laying.specs.Single.{Fitting, Put, Ranged, RangedLaid, Head}
 use Rattle.laying.proofs.Stores.{put_holds, plain_holds, holds_kept, lays_kept, lays_none, kept_none, kept_both}
-use Rattle.laying.proofs.Entering.{entry_small, at_least_one}
+use Rattle.laying.proofs.Entering.{entering_fits, at_least_one}
 use Rattle.places.specs.Walk.{One, OneLaid, Group, GroupLaid, Several, SeveralLaid, Repeat, RepeatLaid}
 use Rattle.places.specs.Standing.{Row}
 use Rattle.places.specs.Sums.{number_of, KindAt}
@@ -79,13 +79,7 @@ set_laid {bs} {at} {base = base} {next = next} {first = first} {t' = t'} some tw
 -- a head, the place before an expression: its numbers fit
 pub head_fits : {bs t : List ℕ} {at stop base next first p g kind a n v : ℕ} → One bs at stop (base + 1) next first p g → Head kind a n → 2040 ≤ length t
     → v ≡ entry_of p (base + 1) next → Fitting t base v a n
-head_fits {base = base} {next = next} {p = p} m h room ev =
-    record {
-      room = omega (arith, m.room);
-      next_fits = omega (arith, ev, entry_small p (base + 1) next {most = 65535} (omega (arith, m.room)) (omega (arith, m.follows)));
-      a_fits = omega (arith, h.a_small);
-      n_fits = omega (arith, h.n_small);
-    }
+head_fits {base = base} {next = next} {p = p} m = entering_fits p base next m.room m.follows
 
 -- a group: its open, what it holds, its close
 abbrev pub group_one : {bs : List ℕ} {at stop base next first n gs : ℕ} → One bs at stop base next first n gs → kind_at bs at ≡ 3

@@ -13,7 +13,7 @@ use Rattle.paper.specs.Check.{body_end}
 use Rattle.paper.specs.Template.{Piece, reference, piece_at, pieces_from, template_of, within}
 use Rattle.template.specs.declared.Record.{Record}
 use Rattle.template.specs.declared.Records.{Records}
-use Rattle.template.specs.Record.{Shows, From, Fits, piece_of, next_of, record_count, IsNumbered, Walked}
+use Rattle.template.specs.Record.{Shows, From, Fits, piece_of, next_of, record_count, IsNumbered, TellsNumbered}
 use Rattle.template.specs.Records.{Start, Goes}
 use Rattle.template.proofs.Reading.{never, from_template_law, walk_from, walk_none, counted_right}
 
@@ -166,7 +166,7 @@ module _ (bs : List ℕ) (number : ℕ) (s : Records) where
     pub number_stops : Goes s None t → length bs ≤ template_bytes → t.at < length bs → template_of bs ≡ refused template_wrong t.at
     number_stops goes short before = wrong_of_count template_wrong t.at (template_of bs) (count_stops bs s t count walk.bytes walk.counted goes short before)
 
-    pub number_ends : Goes s None t → length bs ≤ template_bytes → length bs ≤ t.at → Walked bs number (Ok (count, kept))
+    pub number_ends : Goes s None t → length bs ≤ template_bytes → length bs ≤ t.at → TellsNumbered bs number (Ok (count, kept))
     number_ends goes short past =
         let (pieces, is, all) = counted_right bs count (count_ends bs s t count walk.bytes walk.counted goes short past) in
         (pieces, is, all, whole kept pieces all (walk.left pieces is).1)

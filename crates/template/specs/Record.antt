@@ -47,9 +47,9 @@ IsNumbered pieces number None = length pieces ≤ number
 IsNumbered pieces number (Some found) = (at : ℕ) × (rest : List Piece) × (drop number pieces ≡ piece_of at found ∷ rest) × Fits at found
 
 -- 9, or how many records there are, and the record of a number
-abbrev pub Walked : List ℕ → ℕ → Result (ℕ × Option Record) Refused → Type 0
-Walked bs number (Err r) = template_of bs ≡ refused (number_of r.refusal) r.place
-Walked bs number (Ok (count, found)) =
+abbrev pub TellsNumbered : List ℕ → ℕ → Result (ℕ × Option Record) Refused → Type 0
+TellsNumbered bs number (Err r) = template_of bs ≡ refused (number_of r.refusal) r.place
+TellsNumbered bs number (Ok (count, found)) =
     (pieces : List Piece) × (template_of bs ≡ accepted pieces) × (count ≡ length pieces) × IsNumbered pieces number found
 
 -- 9, then 10

@@ -8,7 +8,7 @@ ghost use Rattle.paper.specs.Rows.{row_start, row_end};
 ghost use Rattle.paper.specs.Template.{template_of, within};
 ghost use Rattle.paper.specs.Template as paper;
 ghost use Rattle.paper.specs.PieceCalls.{row_span, piece_call};
-ghost use Rattle.template.specs.Record.{Shows, next_of, count_of, record_count, references_of, references_call, Walked, Lawful};
+ghost use Rattle.template.specs.Record.{Shows, next_of, count_of, record_count, references_of, references_call, TellsNumbered, Lawful};
 ghost use Rattle.template.specs.Answer.{span_of, answer_of, Inside, IsPart};
 
 use pattern::{Pattern, Refusal, Refused, Spans, Template};
@@ -129,7 +129,7 @@ impl<'a> Iterator for Records<'a> {
 
 // Refusal 9, or the number of records and the record of a number, if there is one: one walk over all of them.
 fn numbered(template: &[u8], number: usize) -> Result<(usize, Option<Record>), Refused>
-    ensures { Walked template.now number result }
+    ensures { TellsNumbered template.now number result }
 {
     if Template::BYTES < template.len() {
         return Err(Refusal::TemplateWrong.at(0));

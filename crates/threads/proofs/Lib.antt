@@ -2,3 +2,4 @@
 pub mod Clearing
 pub mod Stores
 pub mod Stamps
+pub mod Lasting

@@ -1,4 +1,5 @@
 use Rattle.std.proofs.Common.{true, false, refl, ◌∙◌, arith}
+use Rattle.threads.proofs.Lasting.{same_on}
 use Rattle.run.proofs.Walk.{walk_first, walk_asked, walk_next, walk_won, walk_last}
 use Rattle.run.proofs.step.Goals as goal
 
@@ -34,7 +35,7 @@ loop-i-preserved c =
           state.seen.now state.carried.taken.now state.carried.list.now state.carried.count state.steps false
           same.1 c.if-visit.ensures.visits refl;
       room = omega (arith, c.loop-i.invariant.room, c.visit.auto.pending);
-      same_tables = (same.0 ∙ before.0, same.1 ∙ before.1, ((same.2.0.0 ∙ before.2.0.0, same.2.0.1 ∙ before.2.0.1), (same.2.1.0 ∙ before.2.1.0, same.2.1.1 ∙ before.2.1.1)));
+      same_tables = (same.0 ∙ before.0, same.1 ∙ before.1, same_on c.args.state.now.carried c.loop-i.state.carried state.carried before.2 same.2);
     }
 
 pub returns-clause-steps : goal.returns-clause-steps

@@ -3,6 +3,7 @@ use Rattle.visit.proofs.Loop.{Turn, turn_first, turn_floor, turn_last, turn_resu
 use Rattle.visit.proofs.Loop.{turn_seen, fewer_marked, turn_countable, less_new, lead_slots, turn_lead, turn_end, turn_settle, turn_won, fork_asked, turn_fork}
 use Rattle.threads.specs.Threads.{lacking}
 use Rattle.threads.specs.Memory.{SameMemory}
+use Rattle.threads.proofs.Lasting.{same_on}
 use Rattle.visit.proofs.visit.Goals as goal
 use Rattle.visit.proofs.visit.Goals.{Joined-mark, then-mark+else-here-eq-FORK+then-here-lt-SET+in_default, then-mark+else-here-eq-FORK+else-here-lt-SET+else-settle, else-mark}
 
@@ -108,9 +109,8 @@ kept c =
     elim c.if-mark.branch [
       | then-mark+else-here-eq-FORK+then-here-lt-SET+in_default w ↦ rw w.state-is (i.same_seen, i.same_memory)
       | then-mark+else-here-eq-FORK+else-here-lt-SET+else-settle w ↦
-          let was = i.same_memory in
-          let same = w.if-settle.ensures.same_memory in
-          rw w.state-is (i.same_seen, ((same.0.0 ∙ was.0.0, same.0.1 ∙ was.0.1), (same.1.0 ∙ was.1.0, same.1.1 ∙ was.1.1)))
+          let same = same_on c.args.state.now.carried c.loop-state.state.carried w.settle.new.carried i.same_memory w.if-settle.ensures.same_memory in
+          rw w.state-is (i.same_seen, same)
       | else-mark w ↦ rw w.state-is (i.same_seen, i.same_memory)
     ]
 
